@@ -1,0 +1,4 @@
+pub mod Counts
+pub mod Tree
+pub mod Files
+pub mod Sink
