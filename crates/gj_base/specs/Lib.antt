@@ -2,3 +2,12 @@ pub mod Counts
 pub mod Tree
 pub mod Files
 pub mod Sink
+pub mod Choices
+pub mod LineColumn
+pub mod Listed
+pub mod Seeded
+pub mod Plan
+pub mod MemorySink
+pub mod Entries
+pub mod MemoryFiles
+pub mod Folder
