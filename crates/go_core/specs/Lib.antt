@@ -1,0 +1,4 @@
+pub mod Core
+pub mod View
+pub mod GoRun
+pub mod Rows

@@ -1,0 +1,12 @@
+//! The core program, which the checker gives and the translation takes, and what it means in Go.
+//!
+//! `specs/Core.antt` has the tree that contracts see, `specs/GoRun.antt` its runs (The Go
+//! Programming Language Specification as of Go 1.17, "Program initialization and execution").
+#![tactic(auto)]
+
+pub mod laws;
+pub mod tree;
+
+pub use tree::{
+    CoreExpr, CoreExprs, CoreStmt, CoreStmts, Func, FuncId, FuncSet, Funcs, Order, Program,
+};
