@@ -1,0 +1,12 @@
+use Rattle.std.proofs.Common.{◌≡◌, ◌++◌, drop}
+use Rattle.std.specs.Prelude.{IsTrue}
+use Rattle.std.specs.List.{list_all}
+use Rattle.js_tree.specs.Printable.{is_byte}
+use Rattle.go_core.specs.View.{exprs_of}
+use Rattle.go_core.specs.GoRun.{line_of, rest_of_line}
+use Rattle.js_emit.specs.Emitted.{texts_of}
+use Rattle.js_emit.proofs.output.line.Given as goal
+
+-- what was written, and what is left to write
+abbrev pub invariant-loop-operand : goal.invariant-loop-operand
+invariant-loop-operand l = record { written : l.text ++ rest_of_line (texts_of (exprs_of (drop l.operand-index l.others))) ≡ line_of (texts_of (exprs_of l.operands)); bytes : IsTrue (list_all is_byte l.text) }
