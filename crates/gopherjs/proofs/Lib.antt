@@ -1,0 +1,6 @@
+pub mod PlainLemmas
+pub mod GoNamesLemmas
+pub mod ToldLemmas
+pub mod ProgramLemmas
+pub mod BuildLemmas
+pub mod TopLemmas

@@ -1,0 +1,20 @@
+use Rattle.std.proofs.Common.{sym, subst, refl, inl, []}
+use Rattle.std.specs.Prelude.{Option}
+use Rattle.gopherjs.specs.Settings.{Settings}
+use Rattle.gopherjs.specs.Headline.{Answers}
+use Rattle.gopherjs.specs.declared.outcome.Outcome.TheVariants.{Done}
+use Rattle.gopherjs.proofs.TopLemmas.{headline, completes, appended-nil}
+use Rattle.gopherjs.proofs.top.gopherjs.Goals as goal
+
+pub returns-in-Ok-clause-answer : goal.returns-in-Ok-clause-answer
+returns-in-Ok-clause-answer g c = (
+  [],
+  subst (λ (settings : Option Settings). Answers Done [] settings (g.F.Files.state c.args.files.now) (g.F.Files.state c.build.new.files)) (sym c.in-Some.ensures) (c.in-Ok.ensures, refl),
+  inl (appended-nil (g.E.Sink.state c.args.err.now)),
+)
+
+pub returns-in-Ok-clause-headline : goal.returns-in-Ok-clause-headline
+returns-in-Ok-clause-headline g c = headline _ c.in-Some.folder.now _ _ c.in-Some.ensures c.in-Ok.ensures
+
+pub returns-in-Err-clause-complete : goal.returns-in-Err-clause-complete
+returns-in-Err-clause-complete g c = completes _ c.in-Some.folder.now c.in-Err.refused c.refuse.result c.refuse.ensures.0 _ _ c.in-Some.ensures c.refuse.ensures.1 c.in-Err.ensures

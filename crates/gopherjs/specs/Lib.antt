@@ -1,0 +1,9 @@
+pub mod Settings
+pub mod Plain
+pub mod GoFiles
+pub mod Root
+pub mod Outcome
+pub mod Answers
+pub mod Told
+pub mod Headline
+pub mod Builds

@@ -1,0 +1,44 @@
+//! The command line. `src/top.rt` has the call that does all the work, with its contract.
+#![tactic(auto)]
+
+mod build;
+mod disk;
+mod outcome;
+mod plain;
+mod program;
+mod report;
+mod root;
+mod stream;
+#[cfg(test)]
+mod tests;
+mod top;
+mod words;
+
+use crate::disk::DiskFiles;
+use crate::outcome::{Outcome, status_of};
+use crate::stream::StdSink;
+use crate::top::gopherjs;
+use std::env::Env;
+use std::io::ErrorKind;
+use std::process::ExitCode;
+use std::{env, io};
+
+fn main(rt: HostRuntime) -> ExitCode {
+    let mut files = DiskFiles::new(&rt);
+    let mut out = StdSink::new(rt.stdout());
+    let mut err = StdSink::new(rt.stderr());
+    let outcome = match arguments(&rt) {
+        Ok(words) => gopherjs(rt.alloc(), words.as_slice(), &mut files, &mut out, &mut err),
+        Err(error) if error.kind() == ErrorKind::OutOfMemory => Outcome::NoMemory,
+        // A word that is no text asks for nothing that there is.
+        Err(_) => gopherjs(rt.alloc(), &[], &mut files, &mut out, &mut err),
+    };
+    ExitCode::from(status_of(&outcome))
+}
+
+/// The words after the program's name.
+fn arguments<R: Env + AllocGlobal>(rt: &R) -> io::Result<Vec<String>> {
+    let mut words = env::args(rt)?;
+    let _ = words.next();
+    Ok(words.collect(rt.alloc())?)
+}

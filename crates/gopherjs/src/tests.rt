@@ -1,0 +1,285 @@
+//! Rows: what the top call comes to over files in memory, as its user sees it.
+
+use crate::outcome::{Outcome, status_of};
+use crate::top::gopherjs;
+use gj_base::{Fault, Files, Place, Sink, Text, TreeFiles, VecSink};
+use std::alloc::{AllocError, Global};
+use std::process::Abort;
+use std::test::Fail;
+
+struct Row {
+    name: &'static str,
+    words: &'static [&'static str],
+    files: &'static [(&'static str, &'static str)],
+    status: u8,
+    told: &'static str,
+    stores: bool,
+}
+
+const HELLO: &str = "package main\n\nfunc main() {\n\tprintln(\"hello\")\n}\n";
+
+const USAGE: &str = "usage: gopherjs build [-o FILE] [-m] [--src DIR] DIR
+       gopherjs run [--seed N] [--steps N] [--src DIR] DIR
+       gopherjs blocking [--src DIR] DIR
+       gopherjs exec [--seed N] [--steps N] FILE
+       gopherjs gen --size N
+       gopherjs version
+";
+
+const ROWS: [Row; 12] = [
+    Row {
+        name: "builds-hello",
+        words: &["build", "app"],
+        files: &[("app/main.go", HELLO)],
+        status: 0,
+        told: "",
+        stores: true,
+    },
+    Row {
+        name: "builds-empty-main",
+        words: &["build", "app"],
+        files: &[("app/main.go", "package main\n\nfunc main() {\n}\n")],
+        status: 0,
+        told: "",
+        stores: true,
+    },
+    Row {
+        name: "test-files-are-left-out",
+        words: &["build", "app"],
+        files: &[
+            ("app/main.go", HELLO),
+            ("app/main_test.go", "package main\n"),
+            ("app/notes.txt", ""),
+        ],
+        status: 0,
+        told: "",
+        stores: true,
+    },
+    Row {
+        name: "files-below-the-root-are-left-out",
+        words: &["build", "app"],
+        files: &[("app/main.go", HELLO), ("app/low/b.go", "package low\n")],
+        status: 0,
+        told: "",
+        stores: true,
+    },
+    Row {
+        name: "bare-package-clause",
+        words: &["build", "app"],
+        files: &[("app/main.go", "package main\n")],
+        status: 1,
+        told: "main.go:1:1: form not built yet\n",
+        stores: false,
+    },
+    Row {
+        name: "last-line-without-newline",
+        words: &["build", "app"],
+        files: &[("app/main.go", "package main\n\nfunc main() {\n}")],
+        status: 1,
+        told: "main.go:1:1: form not built yet\n",
+        stores: false,
+    },
+    Row {
+        name: "an-escape-is-not-plain",
+        words: &["build", "app"],
+        files: &[(
+            "app/main.go",
+            "package main\n\nfunc main() {\n\tprintln(\"a\\n\")\n}\n",
+        )],
+        status: 1,
+        told: "main.go:1:1: form not built yet\n",
+        stores: false,
+    },
+    Row {
+        name: "two-files-in-root",
+        words: &["build", "app"],
+        files: &[
+            ("app/z.go", HELLO),
+            ("app/b.go", HELLO),
+            ("app/c.go", HELLO),
+        ],
+        status: 1,
+        told: "c.go:1:1: form not built yet\n",
+        stores: false,
+    },
+    Row {
+        name: "root-is-missing",
+        words: &["build", "nowhere"],
+        files: &[("app/main.go", HELLO)],
+        status: 66,
+        told: "gopherjs: read failed\n",
+        stores: false,
+    },
+    Row {
+        name: "root-without-go-file",
+        words: &["build", "app"],
+        files: &[("app/main_test.go", HELLO)],
+        status: 66,
+        told: "gopherjs: read failed\n",
+        stores: false,
+    },
+    Row {
+        name: "no-words",
+        words: &[],
+        files: &[("app/main.go", HELLO)],
+        status: 64,
+        told: USAGE,
+        stores: false,
+    },
+    Row {
+        name: "a-dash-is-no-folder",
+        words: &["build", "-app"],
+        files: &[("-app/main.go", HELLO)],
+        status: 64,
+        told: USAGE,
+        stores: false,
+    },
+];
+
+fn strings(alloc: Global, words: &[&str]) -> Result<Vec<String>, AllocError> {
+    let mut all = Vec::new(alloc);
+    for word in words {
+        all.push(String::from_str(alloc, word)?)?;
+    }
+    Ok(all)
+}
+
+/// A tree with these files.
+fn tree(alloc: Global, texts: &[(&str, &str)]) -> Result<TreeFiles, Fail> {
+    let mut files = TreeFiles::new(alloc);
+    for text in texts {
+        files.put(text.0, text.1.as_bytes())?;
+    }
+    Ok(files)
+}
+
+fn is_text(bytes: &[u8], text: &str) -> bool {
+    bytes == text.as_bytes()
+}
+
+/// Whether the path holds this text.
+fn holds(files: &TreeFiles, path: &str, text: &str) -> bool {
+    match files.bytes(path) {
+        Some(bytes) => is_text(bytes, text),
+        None => false,
+    }
+}
+
+fn check(rt: &impl Abort, alloc: Global, row: &Row) -> Result<(), Fail> {
+    let mut files = tree(alloc, row.files)?;
+    let mut out = VecSink::new(alloc);
+    let mut err = VecSink::new(alloc);
+    let words = strings(alloc, row.words)?;
+    let outcome = gopherjs(alloc, words.as_slice(), &mut files, &mut out, &mut err);
+    assert_eq!(rt; status_of(&outcome), row.status, "{}", row.name);
+    assert!(rt; is_text(err.bytes(), row.told), "{}", row.name);
+    assert_eq!(rt; files.bytes("out.js").is_some(), row.stores, "{}", row.name);
+    assert!(rt; out.bytes().is_empty(), "{}", row.name);
+    Ok(())
+}
+
+#[test]
+fn answers_by_row(rt: HostRuntime) -> Result<(), Fail> {
+    for row in &ROWS {
+        check(&rt, rt.alloc(), row)?;
+    }
+    Ok(())
+}
+
+/// A tree with the program `hello`.
+fn hello(alloc: Global) -> Result<TreeFiles, Fail> {
+    tree(alloc, &[("app/main.go", HELLO)])
+}
+
+const STORED: &str = "var $fs=require(\"fs\");
+function $write(s){var b=Buffer.from(s,\"latin1\"),i=0;while(i<b.length){i+=$fs.writeSync(1,b,i);}}
+function $pick(k){return Math.floor(Math.random()*k);}
+function $end(c,t){var b=Buffer.from(t,\"latin1\"),i=0;while(i<b.length){i+=$fs.writeSync(2,b,i);}process.exit(c);}
+function $start(){
+  $write(\"hello\\x0a\");
+}
+$start();
+";
+
+#[test]
+fn stores_the_script(rt: HostRuntime) -> Result<(), Fail> {
+    let mut files = hello(rt.alloc())?;
+    let mut out = VecSink::new(rt.alloc());
+    let mut err = VecSink::new(rt.alloc());
+    let words = strings(rt.alloc(), &["build", "app"])?;
+    let outcome = gopherjs(rt.alloc(), words.as_slice(), &mut files, &mut out, &mut err);
+    assert_eq!(rt; status_of(&outcome), 0);
+    assert_eq!(rt; files.bytes("out.js"), Some(STORED.as_bytes()));
+    Ok(())
+}
+
+#[test]
+fn store_fails_after_ten_bytes(rt: HostRuntime) -> Result<(), Fail> {
+    let mut files = hello(rt.alloc())?;
+    files.fail(2, 10)?;
+    let mut out = VecSink::new(rt.alloc());
+    let mut err = VecSink::new(rt.alloc());
+    let words = strings(rt.alloc(), &["build", "app"])?;
+    let outcome = gopherjs(rt.alloc(), words.as_slice(), &mut files, &mut out, &mut err);
+    assert_eq!(rt; status_of(&outcome), 74);
+    assert_eq!(rt; err.bytes(), b"gopherjs: write failed\n".as_slice());
+    assert!(rt; holds(&files, "out.js", "var $fs=re"));
+    assert!(rt; holds(&files, "app/main.go", HELLO));
+    Ok(())
+}
+
+/// The calls are one list, one read and one store; a failed read is told before anything else.
+#[test]
+fn a_failed_read_ends_the_call(rt: HostRuntime) -> Result<(), Fail> {
+    for call in 0..2u64 {
+        let mut files = hello(rt.alloc())?;
+        files.fail(call, 0)?;
+        let mut out = VecSink::new(rt.alloc());
+        let mut err = VecSink::new(rt.alloc());
+        let words = strings(rt.alloc(), &["build", "app"])?;
+        let outcome = gopherjs(rt.alloc(), words.as_slice(), &mut files, &mut out, &mut err);
+        assert_eq!(rt; status_of(&outcome), 66, "call {call}");
+        assert_eq!(rt; files.bytes("out.js"), None, "call {call}");
+    }
+    Ok(())
+}
+
+#[test]
+fn a_failed_write_of_the_line_changes_no_outcome(rt: HostRuntime) -> Result<(), Fail> {
+    let mut files = TreeFiles::new(rt.alloc());
+    files.put("app/main.go", b"package main\n")?;
+    let mut out = VecSink::new(rt.alloc());
+    let mut err = VecSink::new(rt.alloc());
+    err.fail(1, 3)?;
+    let words = strings(rt.alloc(), &["build", "app"])?;
+    let outcome = gopherjs(rt.alloc(), words.as_slice(), &mut files, &mut out, &mut err);
+    assert_eq!(rt; status_of(&outcome), 1);
+    assert_eq!(rt; err.bytes(), b"main.go:1:".as_slice());
+    Ok(())
+}
+
+#[test]
+fn statuses(rt: HostRuntime) -> Result<(), Fail> {
+    let fault = Fault {
+        place: Place { file: 0, offset: 0 },
+        code: 50,
+        text: Text::from_slice(rt.alloc(), b"undefined: y")?,
+    };
+    let rows = [
+        (Outcome::Done, 0u8),
+        (Outcome::Ended(3), 3),
+        (Outcome::Fault(fault), 1),
+        (Outcome::Usage, 64),
+        (Outcome::ReadFault, 66),
+        (Outcome::WriteFault, 74),
+        (Outcome::TooLong, 65),
+        (Outcome::BadScript(9), 65),
+        (Outcome::Stuck(9), 70),
+        (Outcome::Stopped(9), 75),
+        (Outcome::NoMemory, 71),
+    ];
+    for (outcome, status) in &rows {
+        assert_eq!(rt; status_of(outcome), *status, "{outcome:?}");
+    }
+    Ok(())
+}
