@@ -1,0 +1,16 @@
+pub mod RunLemmas
+pub mod TextLemmas
+pub mod LexLemmas
+pub mod PlacedLemmas
+pub mod Choices
+pub mod RowLemmas
+pub mod ToldLemmas
+pub mod CharLemmas
+pub mod UnitLemmas
+pub mod PieceLemmas
+pub mod OperatorLemmas
+pub mod CommentLemmas
+pub mod LetterLemmas
+pub mod LongestLemmas
+pub mod ExactLemmas
+pub mod WholeLemmas

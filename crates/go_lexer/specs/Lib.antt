@@ -1,0 +1,15 @@
+pub mod Chars
+pub mod Escapes
+pub mod Runs
+pub mod Numbers
+pub mod Keywords
+pub mod Kinds
+pub mod Operators
+pub mod Texts
+pub mod Semicolons
+pub mod Pieces
+pub mod LexicalFault
+pub mod Tokens
+pub mod Steps
+pub mod Lexed
+pub mod Placed
