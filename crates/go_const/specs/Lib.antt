@@ -1,0 +1,4 @@
+pub mod Representability
+pub mod Bits
+pub mod Operation
+pub mod Answer
