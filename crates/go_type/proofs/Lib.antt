@@ -1,0 +1,12 @@
+pub mod LevelLemmas
+pub mod Identity
+pub mod Growth
+pub mod Names
+pub mod Start
+pub mod PartLemmas
+pub mod HitLemmas
+pub mod Finite
+pub mod Closed
+pub mod MethodLemmas
+pub mod PathLemmas
+pub mod SelectLemmas
