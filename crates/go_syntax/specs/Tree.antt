@@ -91,10 +91,11 @@ mutual
   -- a statement
   pub data Stmt : Type 0 where
     EmptyStmt : Place → Stmt
-    ExprStmt : Place → Expr → Stmt
-    SendStmt : Place → Expr → Expr → Stmt
+    -- here and in the next two forms one expression is due, and the types stage refuses several
+    ExprStmt : Place → Exprs → Stmt
+    SendStmt : Place → Exprs → Expr → Stmt
     -- whether it is `++`
-    IncDecStmt : Place → Expr → Bool → Stmt
+    IncDecStmt : Place → Exprs → Bool → Stmt
     AssignStmt : Place → Exprs → Option Op → Exprs → Stmt
     DefineStmt : Place → Exprs → Exprs → Stmt
     DeclStmt : Place → Decl → Stmt

@@ -77,9 +77,9 @@ expr_step (ExprForm-F.ChanT dir ty) at = t.ChanType at dir ty.value
 
 abbrev pub stmt_step : Layer StmtForm-F → Place → t.Stmt
 stmt_step StmtForm-F.Empty at = t.EmptyStmt at
-stmt_step (StmtForm-F.Expr x) at = t.ExprStmt at x.value
-stmt_step (StmtForm-F.Send x y) at = t.SendStmt at x.value y.value
-stmt_step (StmtForm-F.IncDec x up) at = t.IncDecStmt at x.value up
+stmt_step (StmtForm-F.Expr xs) at = t.ExprStmt at (exprs_of xs.items)
+stmt_step (StmtForm-F.Send xs y) at = t.SendStmt at (exprs_of xs.items) y.value
+stmt_step (StmtForm-F.IncDec xs up) at = t.IncDecStmt at (exprs_of xs.items) up
 stmt_step (StmtForm-F.Assign xs op ys) at = t.AssignStmt at (exprs_of xs.items) op (exprs_of ys.items)
 stmt_step (StmtForm-F.Define xs ys) at = t.DefineStmt at (exprs_of xs.items) (exprs_of ys.items)
 stmt_step (StmtForm-F.Decl d) at = t.DeclStmt at d.value

@@ -184,12 +184,13 @@ pub struct Stmt {
 pub enum StmtForm {
     /// nothing after a label, with the place of the next token
     Empty,
-    /// `x`
-    Expr(Box<Expr>),
+    /// `x`; here and in the next two forms the grammar also has several expressions, which the
+    /// types stage refuses
+    Expr(Vec<Expr>),
     /// `x <- y`
-    Send(Box<Expr>, Box<Expr>),
+    Send(Vec<Expr>, Box<Expr>),
     /// `x++`, or `x--` where the second part is false
-    IncDec(Box<Expr>, bool),
+    IncDec(Vec<Expr>, bool),
     /// `x, y = z, w`, or `x += y` with its operator
     Assign(Vec<Expr>, Option<Op>, Vec<Expr>),
     /// `x, y := z, w`
