@@ -21,18 +21,18 @@ level_at [] i l = absurd (omega arith)
 level_at (x ∷ gs) zero l = (x, refl)
 level_at (x ∷ gs) (suc i) l = level_at gs i (omega arith)
 
-name_at : (n : ℕ) (xs : List NamedType) (i : ℕ) → i < length xs → NamesBelow n xs → (x : NamedType) × (slice_get xs i ≡ Some x) × NamedBelow n x
+pub name_at : (n : ℕ) (xs : List NamedType) (i : ℕ) → i < length xs → NamesBelow n xs → (x : NamedType) × (slice_get xs i ≡ Some x) × NamedBelow n x
 name_at n [] i l b = absurd (omega arith)
 name_at n (x ∷ xs) zero l b = (x, refl, b.0)
 name_at n (x ∷ xs) (suc i) l b = name_at n xs i (omega arith) b.1
 
-get_mapped : (ts : List Ty) (xs : List NamedType) (i : ℕ) (x : NamedType) → slice_get xs i ≡ Some x → slice_get (map (named_of ts) xs) i ≡ Some (named_of ts x)
+pub get_mapped : (ts : List Ty) (xs : List NamedType) (i : ℕ) (x : NamedType) → slice_get xs i ≡ Some x → slice_get (map (named_of ts) xs) i ≡ Some (named_of ts x)
 get_mapped ts [] i x h = cc
 get_mapped ts (y ∷ xs) zero x h = let e : y ≡ x = cc in ap (λ (z : NamedType). Some (named_of ts z)) e
 get_mapped ts (y ∷ xs) (suc i) x h = get_mapped ts xs i x h
 
 module _ (gs : List GoType) (xs : List NamedType) (rises : Rises (length xs) gs) (below : NamesBelow (length gs) xs) where
-  in_places : (t : TypeId) → t.0 < length gs → InPlaces (trees gs) (tree_of (trees gs) t)
+  pub in_places : (t : TypeId) → t.0 < length gs → InPlaces (trees gs) (tree_of (trees gs) t)
   in_places t l = (t.0, omega (arith, length_trees gs), refl)
 
   base_level : (g : GoType) → Below (length gs) (length xs) g → InPlaces (trees gs) (level (trees gs) g) → InPlaces (trees gs) (base_of (level (trees gs) g))
@@ -52,7 +52,7 @@ module _ (gs : List GoType) (xs : List NamedType) (rises : Rises (length xs) gs)
   base_level (go.Named i) b h = h
   base_level (go.Tuple is) b h = h
 
-  tree_level : (t : TypeId) → t.0 < length gs → (g : GoType) × (tree_of (trees gs) t ≡ level (trees gs) g) × Below (length gs) (length xs) g
+  pub tree_level : (t : TypeId) → t.0 < length gs → (g : GoType) × (tree_of (trees gs) t ≡ level (trees gs) g) × Below (length gs) (length xs) g
   tree_level t l =
       let x = level_at gs t.0 l in
       (x.0, tree_is (length xs) gs t.0 x.0 rises x.1, below_wider t.0 (length gs) (length xs) (omega arith) x.0 (rises t.0 x.0 x.1))

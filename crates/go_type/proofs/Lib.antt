@@ -7,6 +7,13 @@ pub mod PartLemmas
 pub mod HitLemmas
 pub mod Finite
 pub mod Closed
+pub mod EndlessLemmas
 pub mod MethodLemmas
 pub mod PathLemmas
 pub mod SelectLemmas
+pub mod PlaceLemmas
+pub mod FoundLemmas
+pub mod ReachLemmas
+pub mod TryLemmas
+pub mod WalkLemmas
+pub mod MemoLemmas

@@ -1,9 +1,10 @@
 -- Go specification (as of Go 1.17), "Selectors", "Struct types", "Method sets": the fields and methods of a
 -- name that stand at a depth in a type.
-use Rattle.std.specs.Prelude.{◌≡◌, ℕ, zero, suc, ◌+◌, ◌<◌, Bool, true, false, ◌&&◌, ◌||◌, if◌then◌else◌, List, [], ◌∷◌, ◌++◌, Option, Some, None, map, bytes_eq, slice_get}
+use Rattle.std.specs.Prelude.{◌≡◌, ℕ, zero, suc, ◌+◌, ◌<◌, Bool, false, ◌&&◌, ◌||◌, if◌then◌else◌, List, [], ◌∷◌, ◌++◌, Option, Some, None, map, bytes_eq, slice_get}
 use Rattle.go_type.specs.Tree.{Ty, Tys, Fields, Specs, pointer, struct, interface, named, no_fields, more_fields, no_specs, more_specs}
 use Rattle.go_type.specs.Named.{NamedTy, MethodTy}
 use Rattle.go_type.specs.Underlying.{underlying}
+use Rattle.go_type.specs.Exported.{is_exported}
 use Rattle.go_type.specs.declared.steps.Step.{Step}
 use Rattle.go_type.specs.declared.steps.Step.TheVariants as step
 
@@ -13,14 +14,10 @@ pub data Member : Type 0 where
   field : (path : List Step) → Member
   method : (path : List Step) (of_ : Ty) (on_pointer : Bool) (params results : Tys) (variadic : Bool) → Member
 
--- a name as it is selected: own: its package is empty where it is exported, and only there
+-- a name as it is selected: own: its package is empty where it is exported
 pub record Sought : Type 0 where
   pub name : List ℕ
   pub package_ : List ℕ
-
-abbrev pub is_empty : List ℕ → Bool
-is_empty [] = true
-is_empty (x ∷ xs) = false
 
 -- "Uniqueness of identifiers": names are the same where their letters are, and where they are exported or of
 -- one package
@@ -29,7 +26,7 @@ is_sought f name package_ = bytes_eq name f.name && bytes_eq package_ f.package_
 
 -- the same of a method that is declared in a package
 abbrev pub is_declared : Sought → List ℕ → List ℕ → Bool
-is_declared f name package_ = bytes_eq name f.name && (is_empty f.package_ || bytes_eq package_ f.package_)
+is_declared f name package_ = bytes_eq name f.name && (is_exported name || bytes_eq package_ f.package_)
 
 abbrev pub field_found : Sought → ℕ → List ℕ → List ℕ → List Member
 field_found f i name package_ = if is_sought f name package_ then field (step.Field i ∷ []) ∷ [] else []

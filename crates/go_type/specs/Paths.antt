@@ -2,8 +2,6 @@
 use Rattle.std.specs.Prelude.{◌≡◌, ◌≤◌, ℕ, Bool, true, false, List, [], ◌∷◌, ◌++◌, length}
 use Rattle.go_type.specs.Tree.{Ty, Fields}
 use Rattle.go_type.specs.Members.{Member, Sought, field, method, base_of, fields_found}
-use Rattle.go_type.specs.declared.hits.Hit.{Hit}
-use Rattle.go_type.specs.declared.hits.Hit.TheVariants.{Nothing}
 use Rattle.go_type.specs.declared.steps.Step.{Step}
 use Rattle.go_type.specs.declared.steps.Step.TheVariants as step
 
@@ -31,10 +29,6 @@ LeadsOnTo ms false = ms ≡ []
 abbrev pub LeadsOn : (Ty → List Member) → Ty → Bool → Bool → Type 0
 LeadsOn p t true b = LeadsOnTo (p (base_of t)) b
 LeadsOn p t false b = b ≡ false
-
-abbrev pub is_nothing : Hit → Bool
-is_nothing Nothing = true
-is_nothing _ = false
 
 -- the first field of the name
 abbrev pub FindsField : Sought → Fields → ℕ → Type 0

@@ -13,8 +13,8 @@ use crate::shallow::shallowest;
 use crate::table::TypeTable;
 use crate::types::{GoType, MethodSpec, Sig, TypeId};
 
-// Where the methods of a type are looked for, and whether a pointer is followed to there.
-fn receiver(table: &TypeTable, t: TypeId) -> Option<(TypeId, bool)>
+/// Where the methods of a type are looked for, and whether a pointer is followed to there.
+pub fn receiver(table: &TypeTable, t: TypeId) -> Option<(TypeId, bool)>
     requires { t.0 < size table.now }
     ensures { Begins (size table.now) (places table.now) (names table.now) (tree_of (places table.now) t) result }
 {

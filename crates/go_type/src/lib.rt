@@ -7,12 +7,18 @@
 #![tactic(auto)]
 
 mod assign;
+pub mod exported;
 mod hits;
 mod implements;
+pub mod laws;
 pub mod lists;
+mod memo;
+mod method_set;
 mod parts;
 mod paths;
+mod place;
 pub mod predeclared;
+mod reach;
 mod same;
 mod search;
 mod select;
@@ -22,8 +28,11 @@ pub mod steps;
 pub mod table;
 #[cfg(test)]
 mod tests;
+mod tries;
 pub mod types;
+mod walk;
 
+pub use exported::is_exported;
 pub use lists::{Declared, Fields, Ids, Methods};
 pub use predeclared::{BOOL, ERROR, NIL, STR, int_id, untyped_id};
 pub use steps::{Path, Selected, Step};

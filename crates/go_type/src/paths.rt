@@ -1,38 +1,33 @@
 //! The steps to the one field or method of a name at a depth.
 
-ghost use Rattle.std.specs.Prelude.{◌≡◌, ◌<◌, ◌≤◌, ◌+◌, ◌^◌, ◌++◌, ℕ, length, IfSome, IfOk, IfNone, OnOk, [], ◌∷◌};
+ghost use Rattle.std.specs.Prelude.{◌≡◌, ◌<◌, ◌≤◌, ◌+◌, ◌^◌, ◌++◌, ℕ, length, IfSome, IfOk, IfNone, OnOk, IsTrue, [], ◌∷◌};
 ghost use Rattle.go_type.specs.Levels.{level, tree_of, fields_of, Below, FieldsBelow};
 ghost use Rattle.go_type.specs.Table.{places, names, size, name_count};
-ghost use Rattle.go_type.specs.Members.{Member, sought, fields_found, members_at, own_members, through, fields_in};
-ghost use Rattle.go_type.specs.Paths.{LeadsTo, HasSteps, LeadsOn, FindsField, is_nothing, steps_through, path_of};
+ghost use Rattle.go_type.specs.Members.{Member, sought, fields_found, members_at, own_members, through, fields_in, base_of, NoneBefore};
+ghost use Rattle.go_type.specs.Paths.{LeadsTo, HasSteps, LeadsOn, FindsField, steps_through, path_of};
 ghost use Rattle.go_type.specs.declared.steps.Step.TheVariants as step;
 
-use crate::hits::Hit;
-use crate::search::{base, hit_at, is_sought};
+use crate::search::{base, is_sought};
+use crate::shallow::shallowest;
 use crate::steps::Step;
 use crate::table::TypeTable;
 use crate::types::{FieldRow, GoType, TypeId};
 use gj_base::{NoMemory, Text};
 
-fn is_nothing(hit: Hit<'_>) -> bool
-    ensures { result ≡ is_nothing hit.entry }
-{
-    match hit {
-        Hit::Nothing => true,
-        _ => false,
-    }
-}
-
 // Whether a field leads on to the name at a depth.
 fn leads_on(table: &TypeTable, field: &FieldRow, name: &Text, package: &Text, depth: u64) -> bool
-    requires { field.now.ty.0 < size table.now }
+    requires field { field.now.ty.0 < size table.now }
+    requires quiet { IsTrue field.now.embedded → NoneBefore (names table.now) (sought name.now «package».now) (base_of (tree_of (places table.now) field.now.ty)) depth }
     ensures { LeadsOn (members_at (names table.now) (sought name.now «package».now) depth) (tree_of (places table.now) field.now.ty) field.now.embedded result }
 {
     if !field.embedded {
         return false;
     }
     let (t, _) = base(table, field.ty);
-    !is_nothing(hit_at(table, t, name, package, depth))
+    match shallowest(table, t, name, package) {
+        Some(found) => found.0 == depth,
+        None => false,
+    }
 }
 
 // The first embedded field that leads on: its place, its type, and whether a pointer is followed.
@@ -45,8 +40,10 @@ fn next(
 ) -> Option<(u32, TypeId, bool)>
     requires below { FieldsBelow (size table.now) fields.now }
     requires few { length fields.now < 2 ^ 32 }
+    requires quiet { (e : ℕ) → e < depth → through (members_at (names table.now) (sought name.now «package».now) e) 0 (fields_of (places table.now) fields.now) ≡ [] }
     ensures leads { IfSome result (λ r. LeadsTo (through (members_at (names table.now) (sought name.now «package».now) depth) 0 (fields_of (places table.now) fields.now)) (steps_through r.0 r.2) (members_at (names table.now) (sought name.now «package».now) depth (tree_of (places table.now) r.1))) }
     ensures within { IfSome result (λ r. r.1.0 < size table.now) }
+    ensures quiet { IfSome result (λ r. NoneBefore (names table.now) (sought name.now «package».now) (tree_of (places table.now) r.1) depth) }
     ensures none { IfNone result (through (members_at (names table.now) (sought name.now «package».now) depth) 0 (fields_of (places table.now) fields.now) ≡ []) }
 {
     let mut place: u32 = 0;
@@ -70,9 +67,11 @@ fn next_below(
     package: &Text,
     depth: u64,
 ) -> Option<(u32, TypeId, bool)>
-    requires { Below (size table.now) (name_count table.now) under.now }
+    requires under { Below (size table.now) (name_count table.now) under.now }
+    requires quiet { (e : ℕ) → e < depth → through (members_at (names table.now) (sought name.now «package».now) e) 0 (fields_in (level (places table.now) under.now)) ≡ [] }
     ensures leads { IfSome result (λ r. LeadsTo (through (members_at (names table.now) (sought name.now «package».now) depth) 0 (fields_in (level (places table.now) under.now))) (steps_through r.0 r.2) (members_at (names table.now) (sought name.now «package».now) depth (tree_of (places table.now) r.1))) }
     ensures within { IfSome result (λ r. r.1.0 < size table.now) }
+    ensures quiet { IfSome result (λ r. NoneBefore (names table.now) (sought name.now «package».now) (tree_of (places table.now) r.1) depth) }
     ensures none { IfNone result (through (members_at (names table.now) (sought name.now «package».now) depth) 0 (fields_in (level (places table.now) under.now)) ≡ []) }
 {
     match under {
@@ -149,7 +148,8 @@ pub fn steps_at(
     depth: u64,
     before: Vec<Step>,
 ) -> Result<Vec<Step>, NoMemory>
-    requires { t.0 < size table.now }
+    requires t { t.0 < size table.now }
+    requires quiet { NoneBefore (names table.now) (sought name.now «package».now) (tree_of (places table.now) t) depth }
     ensures { IfOk result (λ v. (m : Member) → members_at (names table.now) (sought name.now «package».now) depth (tree_of (places table.now) t) ≡ m ∷ [] → v.items ≡ before.items ++ path_of m) }
 {
     let mut steps = before;

@@ -6,11 +6,12 @@ ghost use Rattle.go_type.specs.Levels.{level, tree_of, fields_of, specs_of, tree
 ghost use Rattle.go_type.specs.Named.{method_of, MethodsBelow};
 ghost use Rattle.go_type.specs.Table.{places, names, size, name_count};
 ghost use Rattle.go_type.specs.Underlying.{underlying};
-ghost use Rattle.go_type.specs.Members.{sought, is_sought, is_declared, is_empty, field_found, spec_found, method_found, fields_found, specs_found, methods_found, shape_found, declared_found, own_members, members_at, through, through_one, fields_in, base_of, steps_to};
+ghost use Rattle.go_type.specs.Members.{sought, is_sought, is_declared, field_found, spec_found, method_found, fields_found, specs_found, methods_found, shape_found, declared_found, own_members, members_at, through, through_one, fields_in, base_of, steps_to};
 ghost use Rattle.go_type.specs.Hits.{Sees, IsIn, has_pointer};
 ghost use Rattle.go_type.specs.Chains.{bases_of, goes_deep};
 ghost use Rattle.std.specs.List.{list_any};
 
+use crate::exported::is_exported;
 use crate::hits::{Hit, after, join, when};
 use crate::table::TypeTable;
 use crate::types::{FieldRow, GoType, Method, MethodSpec, TypeId};
@@ -27,16 +28,7 @@ pub fn is_sought(own_name: &Text, own_package: &Text, name: &Text, package: &Tex
 fn is_declared(own_name: &Text, home: &Text, name: &Text, package: &Text) -> bool
     ensures { result ≡ is_declared (sought name.now «package».now) own_name.now home.now }
 {
-    *own_name == *name && (is_empty(package) || *home == *package)
-}
-
-fn is_empty(text: &Text) -> bool
-    ensures { result ≡ is_empty text.now }
-{
-    match text.as_bytes() {
-        [] => true,
-        _ => false,
-    }
+    *own_name == *name && (is_exported(own_name) || *home == *package)
 }
 
 // A field, if it has the name.
@@ -186,8 +178,8 @@ fn declared_hit<'a>(table: &'a TypeTable, of: TypeId, name: &Text, package: &Tex
     }
 }
 
-// The fields and methods of the name at depth zero.
-fn own_hit<'a>(table: &'a TypeTable, t: TypeId, name: &Text, package: &Text) -> Hit<'a>
+/// The fields and methods of the name at depth zero.
+pub fn own_hit<'a>(table: &'a TypeTable, t: TypeId, name: &Text, package: &Text) -> Hit<'a>
     requires { t.0 < size table.now }
     ensures seen { Sees (places table.now) (own_members (names table.now) (sought name.now «package».now) (tree_of (places table.now) t)) result }
     ensures within { IsIn (size table.now) result }

@@ -98,7 +98,7 @@ impl TypeTable {
     ghost use Rattle.go_type.specs.Selection.{IsSelection};
 
     /// What the name selects in a value of the type. The package is that of the name, and empty where
-    /// it is exported, and only there.
+    /// it is exported.
     ///
     /// Go, "Selectors".
     pub fn select_path(

@@ -8,7 +8,7 @@ ghost use Rattle.go_type.specs.Table.{places, size};
 
 use crate::{
     BOOL, Basis, Dir, ERROR, FieldRow, Fields, GoType, Ids, IntName, MethodSpec, Methods, NIL,
-    NamedId, STR, Selected, Sig, Step, TypeId, TypeTable, int_id, untyped_id,
+    NamedId, STR, Selected, Sig, Step, TypeId, TypeTable, int_id, is_exported, untyped_id,
 };
 use gj_base::{NoMemory, Text};
 use std::alloc::Global;
@@ -549,8 +549,8 @@ fn assignability(rt: HostRuntime) -> Result<(), Fail> {
     Ok(())
 }
 
-// pointer-method-set: a pointer to a defined type has the methods of both receivers; promoted methods come
-// by the embedding.
+// "Method sets", "Struct types": a pointer to a defined type has the methods of both receivers; promoted
+// methods come by the embedding.
 #[test]
 fn method_sets(rt: HostRuntime) -> Result<(), Fail> {
     let steps = [
@@ -588,6 +588,146 @@ fn method_sets(rt: HostRuntime) -> Result<(), Fail> {
         (18, 11, false),
     ];
     expect_assignable(&rt, &world, &rows);
+    Ok(())
+}
+
+fn method_set(
+    rt: &impl Abort,
+    alloc: Global,
+    world: &World,
+    i: usize,
+) -> Result<Methods, NoMemory> {
+    let t = type_at(rt, world, i);
+    assert!(rt; t.0 < world.table.len());
+    world.table.method_set(alloc, t)
+}
+
+// A name in a capital letter stands without package, one in a small letter with that of its type.
+fn is_named(spec: &MethodSpec, name: u8) -> bool {
+    if spec.name.as_bytes() != [name].as_slice() {
+        return false;
+    }
+    if name.is_ascii_uppercase() {
+        return spec.package.as_bytes().is_empty();
+    }
+    spec.package.as_bytes() == b"p".as_slice()
+}
+
+fn are_named(specs: &[MethodSpec], want: &[u8]) -> bool {
+    if specs.len() != want.len() {
+        return false;
+    }
+    for (spec, name) in specs.iter().zip(want) {
+        if !is_named(spec, *name) {
+            return false;
+        }
+    }
+    true
+}
+
+fn expect_methods(
+    rt: &impl Abort,
+    alloc: Global,
+    world: &World,
+    rows: &[(usize, &[u8])],
+) -> Result<(), NoMemory> {
+    for (i, (t, want)) in rows.iter().enumerate() {
+        let methods = method_set(rt, alloc, world, *t)?;
+        assert!(rt; are_named(methods.as_slice(), *want), "row {i}");
+    }
+    Ok(())
+}
+
+// pointer-method-set, "Method sets": a type with one method, on its pointer.
+#[test]
+fn pointer_method_set(rt: HostRuntime) -> Result<(), Fail> {
+    let steps = [
+        Make::Name(b'T'), // 9
+        Make::Set(0, INT),
+        Make::Method(0, b'M', true),
+        Make::Pointer(9), // 10
+    ];
+    let world = make_all(&rt, rt.alloc(), &steps)?;
+    let rows: [(usize, &[u8]); 2] = [(9, b""), (10, b"M")];
+    expect_methods(&rt, rt.alloc(), &world, &rows)?;
+    Ok(())
+}
+
+// "Method sets", "Struct types": promoted methods, sorted by name; of two at one depth there is none.
+#[test]
+fn whole_method_sets(rt: HostRuntime) -> Result<(), Fail> {
+    let steps = [
+        Make::Name(b'T'), // 9
+        Make::Set(0, INT),
+        Make::Method(0, b'S', true),
+        Make::Method(0, b'm', false),
+        Make::Method(0, b'G', false),
+        Make::Pointer(9), // 10
+        Make::Interface(b'G'), // 11
+        Make::Pointer(11), // 12
+        Make::Part(b'T', 9, true),
+        Make::Struct, // 13
+        Make::Pointer(13), // 14
+        Make::Part(b'T', 10, true),
+        Make::Struct, // 15
+        Make::Name(b'U'), // 16
+        Make::Set(1, INT),
+        Make::Method(1, b'G', false),
+        Make::Part(b'T', 9, true),
+        Make::Part(b'U', 16, true),
+        Make::Struct, // 17
+        Make::Part(b'G', INT, false),
+        Make::Part(b'T', 9, true),
+        Make::Struct, // 18
+        Make::Part(b'I', 11, true),
+        Make::Struct, // 19
+        Make::Interface(b'm'), // 20
+    ];
+    let world = make_all(&rt, rt.alloc(), &steps)?;
+    let rows: [(usize, &[u8]); 13] = [
+        (9, b"Gm"),
+        (10, b"GSm"),
+        (11, b"G"),
+        (12, b""),
+        (13, b"Gm"),
+        (14, b"GSm"),
+        (15, b"GSm"),
+        (17, b"m"),
+        // a field of the name at a shallower depth
+        (18, b"m"),
+        (19, b"G"),
+        (INT, b""),
+        (NOTHING, b""),
+        (UNTYPED_INT, b""),
+    ];
+    expect_methods(&rt, rt.alloc(), &world, &rows)?;
+    // a method that isn't exported, of another package
+    expect_assignable(&rt, &world, &[(9, 20, false)]);
+    Ok(())
+}
+
+fn exported(alloc: Global, name: &[u8]) -> Result<bool, NoMemory> {
+    let name = Text::from_slice(alloc, name)?;
+    Ok(is_exported(&name))
+}
+
+// "Exported identifiers": upper case letters; the third is a title case letter.
+#[test]
+fn exported_names(rt: HostRuntime) -> Result<(), Fail> {
+    let rows: [(&[u8], bool); 8] = [
+        (b"Name", true),
+        ("\u{c9}t\u{e9}".as_bytes(), true),
+        ("\u{1c5}".as_bytes(), false),
+        ("\u{65e5}A".as_bytes(), false),
+        (b"name", false),
+        (b"_A", false),
+        (b"", false),
+        (b"A\xff", false),
+    ];
+    for (i, (name, want)) in rows.iter().enumerate() {
+        let got = exported(rt.alloc(), *name)?;
+        assert_eq!(rt; got, *want, "row {i}");
+    }
     Ok(())
 }
 
@@ -816,5 +956,92 @@ fn selectors(rt: HostRuntime) -> Result<(), Fail> {
         let got = select(&rt, rt.alloc(), &world, *t, *name)?;
         expect_selected(&rt, i, got, *want);
     }
+    Ok(())
+}
+
+// A type that embeds L and R, each a struct that embeds the type before it: there are so many chains as
+// there are rounds, doubled each time.
+fn add_round(
+    rt: &impl Abort,
+    alloc: Global,
+    world: &mut World,
+    n: usize,
+    k: usize,
+    before: usize,
+) -> Result<(), NoMemory> {
+    assert!(rt; n < 1000);
+    assert!(rt; k < 1000);
+    let steps = [
+        Make::Name(b'L'),
+        Make::Name(b'R'),
+        Make::Part(b'A', before, true),
+        Make::Struct,
+        Make::Set(k, n + 2),
+        Make::Set(k + 1, n + 2),
+        Make::Part(b'L', n, true),
+        Make::Part(b'R', n + 1, true),
+        Make::Struct,
+        Make::Name(b'A'),
+        Make::Set(k + 2, n + 3),
+    ];
+    for step in &steps {
+        make_one(rt, alloc, world, *step)?;
+    }
+    Ok(())
+}
+
+// Forty doublings: a name that nothing has is found missing at once, and so is one behind them.
+#[test]
+fn nested_doublings(rt: HostRuntime) -> Result<(), Fail> {
+    let steps = [
+        Make::Name(b'Z'), // 9
+        Make::Part(b'z', INT, false),
+        Make::Struct, // 10
+        Make::Set(0, 10),
+        Make::Method(0, b'M', false),
+        Make::Interface(b'N'), // 11
+    ];
+    let mut world = make_all(&rt, rt.alloc(), &steps)?;
+    let mut before = 9;
+    for i in 0..40 {
+        let n = 12 + 5 * i;
+        add_round(&rt, rt.alloc(), &mut world, n, 1 + 3 * i, before)?;
+        before = n + 4;
+    }
+    let rows = [
+        (before, b'y', Want::Missing),
+        (before, b'z', Want::Ambiguous),
+        (before, b'M', Want::Ambiguous),
+        (before, b'L', Want::Field(1, [Step::Field(0); 4])),
+    ];
+    for (i, (t, name, want)) in rows.iter().enumerate() {
+        let got = select(&rt, rt.alloc(), &world, *t, *name)?;
+        expect_selected(&rt, i, got, *want);
+    }
+    expect_assignable(&rt, &world, &[(before, 11, false)]);
+    expect_methods(&rt, rt.alloc(), &world, &[(before, b"")])?;
+    Ok(())
+}
+
+// A struct of two arrays of no structs of two arrays, and so on: each type holds the one before twice.
+#[test]
+fn parts_held_twice(rt: HostRuntime) -> Result<(), Fail> {
+    let mut world = make_all(&rt, rt.alloc(), &[Make::Struct])?;
+    let mut before = 9;
+    for i in 0..40 {
+        let n = 10 + 2 * i;
+        let steps = [
+            Make::Array(0, before),
+            Make::Part(b'a', n, false),
+            Make::Part(b'b', n, false),
+            Make::Struct,
+        ];
+        for step in &steps {
+            make_one(&rt, rt.alloc(), &mut world, *step)?;
+        }
+        before = n + 1;
+    }
+    expect_comparable(&rt, &world, &[(before, true, true)]);
+    expect_sizes(&rt, &world, &[(before, Some(2))]);
     Ok(())
 }

@@ -1,4 +1,4 @@
-use Rattle.std.proofs.Common.{◌≡◌, ◌-◌, [], List, sym, ◌∙◌, subst, arith}
+use Rattle.std.proofs.Common.{◌≡◌, suc, ◌-◌, [], List, sym, ◌∙◌, subst, arith}
 use Rattle.go_type.specs.Tree.{Ty}
 use Rattle.go_type.specs.Levels.{tree_of}
 use Rattle.go_type.specs.Table.{places, names}
@@ -22,8 +22,19 @@ down-preserved c =
     (subst (λ (u : Ty). LeadsTo (through p 0 (fields_in u)) (steps_through c.in-Some.place c.in-Some.follows) (p (tree_of ts c.in-Some.inside))) (c.get-under.ensures.tree ∙ c.underlying.ensures.tree) c.in-Some.ensures.leads) in
     record {
       within = c.in-Some.ensures.within;
+      quiet = c.in-Some.ensures.quiet;
       on_the_way = follow _ (members_at ns f c.down.left at) (p (tree_of ts c.in-Some.inside)) c.args.before.items c.down.steps.items (steps_through c.in-Some.place c.in-Some.follows) c.push_steps.new.steps.items c.down.invariant.on_the_way leads c.in_ok-push_steps-in-Some.ensures;
     }
+
+pub next_below-requires-clause-quiet : goal.next_below-requires-clause-quiet
+unfolding members_at
+next_below-requires-clause-quiet c e l =
+    let ts = places c.args.table.now in
+    let ns = names c.args.table.now in
+    let f = sought c.args.name.now c.args.«package».now in
+    let at = tree_of ts c.down.at in
+    let none : members_at ns f (suc e) at ≡ [] = c.down.invariant.quiet.at (suc e) (omega (arith, l, c.down-test.true)) in
+    subst (λ (u : Ty). through (members_at ns f e) 0 (fields_in u) ≡ []) (sym (c.get-under.ensures.tree ∙ c.underlying.ensures.tree)) none
 
 pub returns-in-None : goal.returns-in-None
 returns-in-None c m e =

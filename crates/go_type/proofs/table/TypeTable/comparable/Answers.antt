@@ -9,4 +9,4 @@ pub returns : goal.returns
 returns c =
     let ns = names c.args.self.now in
     let t = tree_of (places c.args.self.now) c.args.t in
-    parts_iff compares ns c.len.result t c.holds.result (subst (λ (n : ℕ). holds_within every ns n t ≡ true) (sym c.len.ensures.value) c.requires.finite) c.holds.ensures
+    parts_iff compares ns c.len.result t c.holds.result (subst (λ (n : ℕ). holds_within every ns n t ≡ true) (sym c.len.ensures.value) c.requires.finite) c.holds.ensures.value
