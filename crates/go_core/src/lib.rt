@@ -5,6 +5,10 @@
 #![tactic(auto)]
 
 pub mod laws;
+pub mod meaning;
+pub mod node;
+pub mod program;
+pub mod statement;
 pub mod tree;
 
 pub use tree::{

@@ -1,0 +1,3 @@
+pub mod GrowthLemmas
+pub mod GrowthOperators
+pub mod GrowthSteps
