@@ -1,0 +1,13 @@
+pub mod Once
+pub mod Heads
+pub mod Holding
+pub mod SoundExpr
+pub mod SoundStmt
+pub mod Sound
+pub mod Complete
+pub mod CompleteStmt
+pub mod Strings
+pub mod Words
+pub mod Lexing
+pub mod Splitting
+pub mod OneTree

@@ -1,0 +1,6 @@
+pub mod Scan
+pub mod Tokens
+pub mod Goals
+pub mod Steps
+pub mod Reads
+pub mod Laws
