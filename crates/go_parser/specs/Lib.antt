@@ -1,0 +1,13 @@
+pub mod Classes
+pub mod Context
+pub mod Grammar
+pub mod Files
+pub mod Limits
+pub mod Frames
+pub mod Nodes
+pub mod ExprSteps
+pub mod StmtSteps
+pub mod Parsed
+pub mod Laws
+pub mod RowWords
+pub mod Rows

@@ -1,0 +1,4 @@
+//! Tokens to the tree of a file.
+#![tactic(auto)]
+
+pub mod laws;
