@@ -1,0 +1,11 @@
+pub mod Follows
+pub mod Nested
+pub mod Weighed
+pub mod Listed
+pub mod Parts
+pub mod Ended
+pub mod Steps
+pub mod Views
+pub mod Loops
+pub mod Forms
+pub mod Globals

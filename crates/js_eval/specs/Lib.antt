@@ -1,0 +1,7 @@
+pub mod Weight
+pub mod Limited
+pub mod Seen
+pub mod Flows
+pub mod Does
+pub mod Faults
+pub mod Runs
