@@ -1,3 +1,5 @@
+pub mod Nesting
+pub mod ReadBack
 pub mod Scan
 pub mod Tokens
 pub mod Goals

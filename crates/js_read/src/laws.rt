@@ -2,6 +2,8 @@
 //! and what tree tokens have.
 
 ghost use Rattle.js_read.specs.Laws.{FindsTokens, HasOneList, ReadsScripts, HaveOneTree, HasOneTree};
+ghost use Rattle.js_read.specs.Nesting.{PrintsWhereNested};
+ghost use Rattle.js_read.specs.ReadBack.{ReadsBack, ReadsOnlyBack, HasNoText};
 
 /// `token_at` finds exactly the token that a text begins with: ECMA-262 5.1, 7.5 to 7.8.
 pub fn finds_tokens()
@@ -30,3 +32,25 @@ pub fn one_script()
 {
     one_tree();
 }
+
+/// The text of each script that has one is a script with the same tree, places aside.
+pub fn reads_back()
+    ensures { ReadsBack }
+{}
+
+/// What is read of a script's text is that script, places aside, and has the same text.
+pub fn reads_only_back()
+    ensures { ReadsOnlyBack }
+{
+    one_script();
+}
+
+/// There is a script whose tree has no text, since only its spare parentheses keep the nesting.
+pub fn has_no_text()
+    ensures { HasNoText }
+{}
+
+/// A tree that was read has a text exactly where no token of that text is nested deeper than 1000.
+pub fn prints_where_nested()
+    ensures { PrintsWhereNested }
+{}
