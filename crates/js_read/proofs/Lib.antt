@@ -29,3 +29,6 @@ pub mod Words
 pub mod Lexing
 pub mod Splitting
 pub mod OneTree
+pub mod Runs
+pub mod Passing
+pub mod FirstToken

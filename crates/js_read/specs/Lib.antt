@@ -6,3 +6,5 @@ pub mod Goals
 pub mod Steps
 pub mod Reads
 pub mod Laws
+pub mod Signs
+pub mod Lexed
