@@ -10,7 +10,7 @@ use Rattle.go_core.specs.Layout.{is_comparable}
 use Rattle.go_core.specs.CoreTree as core
 use Rattle.go_core.specs.CoreTree.{Constant, Expr, Exprs, no_exprs, expr, CorePlace, Bound, no_bound, bound, Elements, no_elements, element, Pairs, no_pairs, pair, Callee, Target, BranchKind, break_, continue_, Communication, Stmt, Stmts, no_stmts, stmt, Tests, no_tests, test, Clauses, no_clauses, clause, Cases, no_cases, case, Var, MethodName, MethodRow, CoreFunc, PackageVar, PackageRow, CoreProgram}
 use Rattle.go_core.specs.TypeOf.{listed_types, types_of, all_types, var_type, place_type, one_type, field_in, int_type}
-use Rattle.go_core.specs.SoundNode.{Around, with_var, with_all, with_break, with_loop, IsInt, IsBool, IsText, IsPrintable, IsInterface, IsSlice, IsArray, IsMap, IsChannel, IsGoodType, Fits, IsGateField, IsField, IsUnary, IsArithmetic, IsShift, IsOrder, IsOrdered, IsConversion, SlicesTo, HasRows, Calls, HasFuncType, IsSignature, HasMethodType, GoesInto, HasLength, HasCapacity, BuildsPart, IsBuilt, types_of_vars, AreDeclarable, method_at, under_one}
+use Rattle.go_core.specs.SoundNode.{Around, with_var, with_all, with_break, with_loop, IsInt, IsBool, IsText, IsPrintable, IsInterface, IsSlice, IsArray, IsMap, IsChannel, IsGoodType, Fits, IsGateField, IsField, IsUnary, IsArithmetic, IsShift, IsOrder, IsOrdered, IsConversion, SlicesTo, HasRows, AnswersTo, IsRowOf, Calls, HasFuncType, IsSignature, HasMethodType, GoesInto, HasLength, HasCapacity, BuildsPart, IsBuilt, types_of_vars, AreDeclarable, method_at, under_one}
 
 -- the empty interface
 abbrev pub empty_interface : Ty
@@ -73,7 +73,7 @@ abbrev mutual
       SoundExpr p a e × SoundBound p a low × SoundBound p a high × SoundBound p a limit × Gives p e from × SlicesTo p (underlying p.names from) from t
   SoundExpr p a (core.build t count es) = SoundElements p a t count es × IsGoodType p t × IsBuilt (underlying p.names t)
   SoundExpr p a (core.build_map t ps) = SoundPairs p a t ps × IsGoodType p t × IsMap (underlying p.names t)
-  SoundExpr p a (core.closure t f) = HasFuncType (slice_get p.funcs f) a.vars t
+  SoundExpr p a (core.closure t f) = HasFuncType (slice_get p.funcs f) a.vars t × (IsRowOf p f → ⊥)
   SoundExpr p a (core.bind t n e) = SoundExpr p a e × Gives p e n.type_ × HasMethodType p n t
   SoundExpr p a (core.bind_dynamic t name package_ e) =
       SoundExpr p a e × IsSignature (method_at name package_ (under_one p (one_type (types_of p.names e)))) t
@@ -88,7 +88,7 @@ abbrev mutual
   SoundExpr p a (core.make_chan t capacity) = SoundBound p a capacity × IsGoodType p t × IsChannel (underlying p.names t)
   SoundExpr p a (core.new_ t) = IsGoodType p t
   SoundExpr p a (core.wrap from t e) =
-      SoundExpr p a e × Gives p e from × IsInterface (underlying p.names t) × (IsInterface (underlying p.names from) → ⊥) × HasRows p from
+      SoundExpr p a e × Gives p e from × AnswersTo p from (underlying p.names t) × (IsInterface (underlying p.names from) → ⊥) × HasRows p from
   SoundExpr p a (core.assert_ t ok e) = SoundExpr p a e × GivesSome p e IsInterface × IsGoodType p t
   SoundExpr p a (core.basic t e) = SoundExpr p a e × Gives p e t × (underlying p.names t ≡ empty_interface)
   SoundExpr p a (core.receive t ok e) = SoundExpr p a e × Gives p e t × IsChannel (underlying p.names t)
@@ -208,6 +208,10 @@ abbrev pub labels_for : BranchKind → Around → List ℕ
 labels_for break_ a = a.breaks
 labels_for continue_ a = a.continues
 
+-- own: a label isn't used again inside its statement
+abbrev pub IsNew : ℕ → Around → Type 0
+IsNew label a = Contains a.breaks label → ⊥
+
 abbrev pub HasClause : Clauses → ℕ → Type 0
 HasClause no_clauses n = ⊥
 HasClause (clause body falls cs) zero = Unit {0}
@@ -247,16 +251,16 @@ abbrev mutual
   SoundStmt p a (core.store ts es) = SoundExprs p a es × SoundTargets p a ts (all_types p.names es)
   SoundStmt p a (core.map_delete t e key) = SoundExpr p a e × SoundExpr p a key × Gives p e t × (k : Ty) × Gives p key k × HasKeyType (underlying p.names t) k
   SoundStmt p a (core.if_ e ss us) = SoundExpr p a e × GivesSome p e IsBool × SoundStmts p a ss × SoundStmts p a us
-  SoundStmt p a (core.loop label c body post) = SoundCondition p a c × SoundStmts p (with_loop label a) body × SoundStmts p a post
-  SoundStmt p a (core.switch_on label ts clauses d) = SoundTests p a ts clauses × SoundClauses p (with_break label a) clauses × HasDefault clauses d
+  SoundStmt p a (core.loop label c body post) = IsNew label a × SoundCondition p a c × SoundStmts p (with_loop label a) body × SoundStmts p a post
+  SoundStmt p a (core.switch_on label ts clauses d) = IsNew label a × SoundTests p a ts clauses × SoundClauses p (with_break label a) clauses × HasDefault clauses d
   SoundStmt p a (core.range_over label from e key value body) =
-      SoundExpr p a e × Gives p e from × IsRanged p (underlying p.names from) × InScope a.vars key × InScope a.vars value
+      IsNew label a × SoundExpr p a e × Gives p e from × IsRanged p (underlying p.names from) × InScope a.vars key × InScope a.vars value
       × IfThere key (RangesKey (underlying p.names from)) × IfThere value (RangesValue p (underlying p.names from)) × SoundStmts p (with_loop label a) body
-  SoundStmt p a (core.labeled label body) = SoundStmts p (with_break label a) body
+  SoundStmt p a (core.labeled label body) = IsNew label a × SoundStmts p (with_break label a) body
   SoundStmt p a (core.branch kind label) = Contains (labels_for kind a) label
   SoundStmt p a (core.send t e v) = SoundExpr p a e × SoundExpr p a v × Gives p e t × (u : Ty) × Gives p v u × IsChannelOf (underlying p.names t) u
   SoundStmt p a (core.close_ e) = SoundExpr p a e × GivesSome p e IsChannel
-  SoundStmt p a (core.select_step label cases has_default body) = SoundCases p (with_break label a) cases × SoundStmts p (with_break label a) body
+  SoundStmt p a (core.select_step label cases has_default body) = IsNew label a × SoundCases p (with_break label a) cases × SoundStmts p (with_break label a) body
   SoundStmt p a (core.gate_take cell) = SoundGate p a cell
   SoundStmt p a (core.gate_await cell) = SoundGate p a cell
   SoundStmt p a core.yield_ = Unit {0}

@@ -17,7 +17,7 @@ use Rattle.go_core.specs.Arithmetic.{wrapped}
 use Rattle.go_core.specs.StepInterfaces.{row_of}
 use Rattle.go_core.specs.CoreTree as core
 use Rattle.go_core.specs.CoreTree.{Constant, truth_constant, whole_constant, text_constant, Expr, Exprs, no_exprs, expr, CorePlace, Bound, no_bound, bound, Elements, no_elements, element, Pairs, no_pairs, pair, Callee, Target, BranchKind, break_, continue_, Communication, Stmt, Stmts, no_stmts, stmt, Tests, no_tests, test, Clauses, no_clauses, clause, Cases, no_cases, case, Var, MethodName, MethodRow, CoreFunc, CoreProgram}
-use Rattle.go_core.specs.TypeOf.{listed_types, types_of, var_type, one_type, FieldTy, field_in, int_type, Signature, method_in}
+use Rattle.go_core.specs.TypeOf.{listed_types, types_of, var_type, one_type, FieldTy, field_in, int_type, Signature, method_in, spec_in}
 
 -- what stands around a node: the variables in scope, those that may be declared, the results of the function, and
 -- the labels that can be left and continued
@@ -175,11 +175,22 @@ Converts p (ty.slice t) ty.str = IsByteOrRune (underlying p.names t)
 Converts p (ty.pointer a) (ty.pointer b) = underlying p.names a ≡ underlying p.names b
 Converts p a b = ⊥
 
+-- no value is of the type of an untyped constant
+abbrev pub IsTyped : Ty → Type 0
+IsTyped (ty.untyped basis) = ⊥
+IsTyped _ = Unit {0}
+
+-- an interface value goes to an interface type whose methods its own type has
+abbrev pub AsksNoMore : Ty → Ty → Type 0
+AsksNoMore (ty.interface ms) (ty.interface more) = (name package_ : List ℕ) (s : Signature) → spec_in name package_ more ≡ Some s → spec_in name package_ ms ≡ Some s
+AsksNoMore _ _ = Unit {0}
+
 abbrev pub IsConversion : CoreProgram → Ty → Ty → Type 0
 IsConversion p from to =
     (underlying p.names from ≡ underlying p.names to)
     ⊎ Converts p (underlying p.names from) (underlying p.names to)
     ⊎ IsAssignable p.names from to × (IsInterface (underlying p.names from) ⊎ (IsInterface (underlying p.names to) → ⊥))
+    × IsTyped (underlying p.names from) × AsksNoMore (underlying p.names from) (underlying p.names to)
 
 -- what can be sliced, and what of
 abbrev pub SlicesTo : CoreProgram → Ty → Ty → Ty → Type 0
@@ -205,7 +216,21 @@ pub record HasRow (p : CoreProgram) (t : Ty) (f : Sought) (params results : Tys)
 abbrev pub HasRows : CoreProgram → Ty → Type 0
 HasRows p t = (f : Sought) (params results : Tys) (variadic : Bool) → HasMethod p.names t f params results variadic → HasRow p t f params results variadic
 
+-- each method of the interface has its row, whose function has its signature
+abbrev pub Answers : CoreProgram → Ty → Specs → Type 0
+Answers p t ms =
+    (name package_ : List ℕ) (s : Signature) → spec_in name package_ ms ≡ Some s → HasRow p t (record { name = name; package_ = package_ }) s.params s.results s.variadic
+
+-- a value of the type can be one of the interface type
+abbrev pub AnswersTo : CoreProgram → Ty → Ty → Type 0
+AnswersTo p t (ty.interface ms) = Answers p t ms
+AnswersTo p t _ = ⊥
+
 -- ---- callees
+
+-- some row has the function, so its first operand is a receiver
+abbrev pub IsRowOf : CoreProgram → ℕ → Type 0
+IsRowOf p k = (row : MethodRow) × Contains p.methods row × (row.func ≡ k)
 
 abbrev pub AreInScope : List ℕ → List Var → Type 0
 AreInScope [] vars = Unit {0}
@@ -245,7 +270,7 @@ method_at name package_ None = None
 method_at name package_ (Some t) = method_in name package_ t
 
 abbrev pub Calls : CoreProgram → List Var → Callee → List Ty → Tys → Type 0
-Calls p vars (core.function f) operands results = CallsFunction (slice_get p.funcs f) vars operands results
+Calls p vars (core.function f) operands results = CallsFunction (slice_get p.funcs f) vars operands results × (IsRowOf p f → ⊥)
 Calls p vars (core.method n) operands results = CallsMethod p n operands results
 Calls p vars (core.func_value e) operands results = CallsValue (under_one p (one_type (types_of p.names e))) operands results
 Calls p vars (core.dynamic name package_ e) operands results = CallsDynamic (method_at name package_ (under_one p (one_type (types_of p.names e)))) operands results

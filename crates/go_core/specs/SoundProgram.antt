@@ -1,9 +1,8 @@
 -- Go specification (as of Go 1.17), "Declarations and scope", "Method declarations", "Packages", "Package
 -- initialization": the core programs that have a meaning.
-use Rattle.std.specs.Prelude.{◌≡◌, ◌≢◌, ◌≤◌, ◌⊎◌, ℕ, List, [], ◌∷◌, ◌++◌, false, Option, Some, None, Contains, AllPairs, All, slice_get, IsTrue, codes, length, flat_map, take, drop}
+use Rattle.std.specs.Prelude.{◌≡◌, ◌≢◌, ◌≤◌, ◌<◌, ◌⊎◌, ℕ, List, [], ◌∷◌, ◌++◌, false, Option, Some, None, Contains, AllPairs, All, slice_get, IsTrue, codes, length, flat_map, take, drop}
 use Rattle.go_type.specs.Tree as ty
 use Rattle.go_type.specs.Tree.{Ty, Tys, no_tys, more_tys}
-use Rattle.go_type.specs.Named.{NamedTy}
 use Rattle.go_type.specs.Underlying.{underlying}
 use Rattle.go_type.specs.MethodSet.{HasMethod}
 use Rattle.go_type.specs.Members.{sought}
@@ -11,7 +10,7 @@ use Rattle.go_core.specs.Layout.{holds_by_value}
 use Rattle.go_core.specs.CoreTree.{Bound, no_bound, bound, Var, MethodRow, CoreFunc, PackageVar, PackageRow, CoreProgram}
 use Rattle.go_core.specs.TypeOf.{listed_types, types_of, var_type}
 use Rattle.go_core.specs.Terminating.{ends_terminating}
-use Rattle.go_core.specs.SoundNode.{every, IsGoodType, HasRow, types_of_vars}
+use Rattle.go_core.specs.SoundNode.{every, IsGoodType, HasRow, IsRowOf, types_of_vars}
 use Rattle.go_core.specs.Sound.{SoundExpr, SoundStmts}
 use Rattle.go_core.specs.Run.{set_with}
 
@@ -33,9 +32,6 @@ or_none (Some t) v = record { id = v; type_ = t } ∷ []
 abbrev pub captured_vars : CoreProgram → List ℕ → List Var
 captured_vars p [] = []
 captured_vars p (v ∷ vs) = or_none (var_type v (all_vars p)) v ++ captured_vars p vs
-
-abbrev pub IsRowOf : CoreProgram → ℕ → Type 0
-IsRowOf p k = (row : MethodRow) × Contains p.methods row × (row.func ≡ k)
 
 abbrev pub Terminates : CoreFunc → Type 0
 Terminates f = (f.results ≡ no_tys) ⊎ IsTrue (ends_terminating f.body)
@@ -73,13 +69,13 @@ pub record SoundRow (p : CoreProgram) (row : MethodRow) : Type 0 where
 
 -- ---- package variables
 
+abbrev pub type_in : Option PackageVar → List Ty
+type_in None = []
+type_in (Some x) = x.type_ ∷ []
+
 abbrev pub types_at : CoreProgram → List ℕ → List Ty
 types_at p [] = []
-types_at p (n ∷ ns) = of_variable (slice_get p.globals n) ++ types_at p ns
-  where
-    of_variable : Option PackageVar → List Ty
-    of_variable None = []
-    of_variable (Some x) = x.type_ ∷ []
+types_at p (n ∷ ns) = type_in (slice_get p.globals n) ++ types_at p ns
 
 -- the first of several variables alone has an initialiser, which gives one value for each of them
 abbrev pub SoundInitialiser : CoreProgram → PackageVar → Bound → Type 0
@@ -130,16 +126,16 @@ pub record SoundHidden (p : CoreProgram) : Type 0 where
   pub has_error : HasRow p p.hidden (sought (codes "Error") []) no_tys (more_tys ty.str no_tys) false
   pub has_runtime_error : HasRow p p.hidden (sought (codes "RuntimeError") []) no_tys no_tys false
 
--- a named type is set, and doesn't hold itself
-abbrev pub IsSet : CoreProgram → NamedTy → Type 0
-IsSet p x = (u : Ty) × (x.under ≡ Some u) × IsTrue (holds_by_value every p.names u)
+-- each named type is set, and doesn't hold itself
+abbrev pub AreSet : CoreProgram → Type 0
+AreSet p = (id : ℕ) → id < length p.names → IsTrue (holds_by_value every p.names (ty.named id))
 
 abbrev pub DifferInId : Var → Var → Type 0
 DifferInId v w = v.id ≢ w.id
 
 -- the core programs that have a meaning
 pub record Sound (p : CoreProgram) : Type 0 where
-  pub names_set : All (IsSet p) p.names
+  pub names_set : AreSet p
   pub types_fit : All (IsGoodType p) p.types
   pub few_functions : length p.funcs ≤ 65535
   pub functions : (k : ℕ) (f : CoreFunc) → slice_get p.funcs k ≡ Some f → SoundFunc p k f

@@ -27,13 +27,13 @@ row_from k n (r ∷ rs) = if is_row n r then Some k else row_from (suc k) n rs
 abbrev pub row_of : CoreProgram → MethodName → Option ℕ
 row_of p n = row_from 0 n p.methods
 
+abbrev pub func_in : CoreProgram → Option MethodRow → Option CoreFunc
+func_in p None = None
+func_in p (Some r) = slice_get p.funcs r.func
+
 abbrev pub func_of_row : CoreProgram → Option ℕ → Option CoreFunc
 func_of_row p None = None
-func_of_row p (Some k) = of_row (slice_get p.methods k)
-  where
-    of_row : Option MethodRow → Option CoreFunc
-    of_row None = None
-    of_row (Some r) = slice_get p.funcs r.func
+func_of_row p (Some k) = func_in p (slice_get p.methods k)
 
 -- ---- "Type assertions"
 

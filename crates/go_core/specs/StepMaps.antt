@@ -32,13 +32,13 @@ module _ (ns : List NamedTy) (key_type : Ty) where
   with_new key value s =
       record { entries = s.entries ++ record { key = key; value = value; birth = s.next_birth } ∷ []; next_birth = suc s.next_birth }
 
+  abbrev pub put_entry : Value → Value → MapState → Option Value → Option MapState
+  put_entry key value s (Some old) = Some (record s { entries = replaced key value s.entries })
+  put_entry key value s None = if nat_le most_elements (length s.entries) then None else Some (with_new key value s)
+
   -- the map with this entry; none where a new key passes the limit
   abbrev pub with_entry : Value → Value → MapState → Option MapState
-  with_entry key value s = put (looked_up key s.entries)
-    where
-      put : Option Value → Option MapState
-      put (Some old) = Some (record s { entries = replaced key value s.entries })
-      put None = if nat_le most_elements (length s.entries) then None else Some (with_new key value s)
+  with_entry key value s = put_entry key value s (looked_up key s.entries)
 
 abbrev pub found_value : Shape → Option Value → Value
 found_value s None = zeros s
@@ -52,13 +52,13 @@ abbrev pub with_ok : Bool → Value → Bool → List Value
 with_ok true v ok = v ∷ (truth ok ∷ []) ∷ []
 with_ok false v ok = v ∷ []
 
+abbrev pub entries_in : Option MapState → List Entry
+entries_in None = []
+entries_in (Some s) = s.entries
+
 -- nil has no entry
 abbrev pub entries_at : Value → Memory → List Entry
 entries_at (cell.map name ∷ []) m = entries_in (slice_get m.maps name)
-  where
-    entries_in : Option MapState → List Entry
-    entries_in None = []
-    entries_in (Some s) = s.entries
 entries_at _ m = []
 
 abbrev pub map_get_step : List NamedTy → Ty → Bool → Value → Value → Memory → Did
