@@ -44,4 +44,12 @@ pub mod Marks
 pub mod SoundNode
 pub mod Sound
 pub mod SoundProgram
+pub mod Leaves
+pub mod Typed
+pub mod Applies
+pub mod TasksTyped
+pub mod WellFormed
+pub mod TypingLaws
+pub mod LocalSteps
+pub mod SoundSample
 pub mod CoreView

@@ -10,6 +10,7 @@ pub mod node;
 pub mod program;
 pub mod statement;
 pub mod tree;
+pub mod typing;
 
 pub use tree::{
     CoreExpr, CoreExprs, CoreStmt, CoreStmts, Func, FuncId, FuncSet, Funcs, Order, Program,

@@ -1,0 +1,5 @@
+use Rattle.go_core.proofs.SampleSound as sample
+use Rattle.go_core.proofs.typing.sample.Goals as goal
+
+pub returns : goal.returns
+returns c = record { sound = sample.sound }

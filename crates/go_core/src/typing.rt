@@ -1,0 +1,36 @@
+//! Laws of the typing of states. No function here does anything.
+
+ghost use Rattle.go_core.specs.LocalSteps.{LocalStepsKeep};
+ghost use Rattle.go_core.specs.SoundSample.{SampleIsSound};
+ghost use Rattle.go_core.specs.TypingLaws.{
+  ExprsOpenTyped,
+  OperatorsTyped,
+  StartsWellFormed,
+  StmtsOpenTyped,
+};
+
+/// What remains of a frame's body is typed where its nodes are sound.
+pub fn opening()
+    ensures exprs { ExprsOpenTyped }
+    ensures stmts { StmtsOpenTyped }
+{}
+
+/// Operands of an operator's types always have a step, which panics or gives values of its types.
+pub fn operators()
+    ensures operators { OperatorsTyped }
+{}
+
+/// The beginning of a Sound program's run is well formed.
+pub fn starts()
+    ensures well_formed { StartsWellFormed }
+{}
+
+/// A step that a frame takes by itself is there, and leaves a well formed state.
+pub fn local_steps()
+    ensures keep { LocalStepsKeep }
+{}
+
+/// There is a Sound program, so what is said of such programs is said of something.
+pub fn sample()
+    ensures sound { SampleIsSound }
+{}
