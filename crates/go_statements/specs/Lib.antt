@@ -1,0 +1,11 @@
+pub mod Walk
+pub mod Expressions
+pub mod Assign
+pub mod Declare
+pub mod Labels
+pub mod Statements
+pub mod RowWords
+pub mod RowsAssign
+pub mod RowsDeclare
+pub mod RowsControl
+pub mod RowsCore
