@@ -1,0 +1,4 @@
+pub mod OperatorLemmas
+pub mod NumberLemmas
+pub mod StackLemmas
+pub mod ListLemmas

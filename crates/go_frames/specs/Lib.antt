@@ -1,0 +1,4 @@
+pub mod Numbers
+pub mod FrameView
+pub mod Pushes
+pub mod Lists
