@@ -25,3 +25,11 @@ pub mod StartTyped
 pub mod FramesGrow
 pub mod LocalFrames
 pub mod SampleSound
+pub mod CommunicationOpened
+pub mod CommunicationFrames
+pub mod CommunicationOffers
+pub mod CommunicationReach
+pub mod CommunicationGates
+pub mod CommunicationStays
+pub mod CommunicationSelects
+pub mod CommunicationSteps

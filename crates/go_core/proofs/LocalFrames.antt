@@ -51,14 +51,14 @@ use Rattle.go_core.proofs.FramesGrow.{places, frame, frames, goroutines, globals
 
 -- ---- values on the stack
 
-record Taken (p : CoreProgram) (w : World) (ins st : List Slot) (n : ℕ) (vs : List Value) (acc : List Value) : Type 0 where
-  operands : List Value
-  others : List Value
-  are_in : AreIn p w ins operands
-  left_in : AreIn p w st others
-  taken : popped_before (length ins + n) vs acc ≡ popped_before n others (operands ++ acc)
+pub record Taken (p : CoreProgram) (w : World) (ins st : List Slot) (n : ℕ) (vs : List Value) (acc : List Value) : Type 0 where
+  pub operands : List Value
+  pub others : List Value
+  pub are_in : AreIn p w ins operands
+  pub left_in : AreIn p w st others
+  pub taken : popped_before (length ins + n) vs acc ≡ popped_before n others (operands ++ acc)
 
-takes_off : (p : CoreProgram) (w : World) (ins st : List Slot) (n : ℕ) (vs acc : List Value) → AreIn p w (pushed_slots ins st) vs → Taken p w ins st n vs acc
+pub takes_off : (p : CoreProgram) (w : World) (ins st : List Slot) (n : ℕ) (vs acc : List Value) → AreIn p w (pushed_slots ins st) vs → Taken p w ins st n vs acc
 takes_off p w [] st n vs acc h = let z : 0 + n ≡ n = omega arith in record { operands = []; others = vs; are_in = tt; left_in = h; taken = ap (λ j. popped_before j vs acc) z }
 takes_off p w (i ∷ is) st n vs acc h = next i is st n vs acc (takes_off p w is (i ∷ st) (suc n) vs acc h)
   where
@@ -72,13 +72,13 @@ takes_off p w (i ∷ is) st n vs acc h = next i is st n vs acc (takes_off p w is
             let z : suc (length is) + n ≡ length is + suc n = omega arith in
             record { operands = x ∷ ops; others = others; are_in = (k.0, h); left_in = k.1; taken = ap (λ j. popped_before j vs acc) z ∙ e }
 
-pushes_on : (p : CoreProgram) (w : World) (outs st : List Slot) (xs vs : List Value) → AreIn p w outs xs → AreIn p w st vs → AreIn p w (pushed_slots outs st) (pushed xs vs)
+pub pushes_on : (p : CoreProgram) (w : World) (outs st : List Slot) (xs vs : List Value) → AreIn p w outs xs → AreIn p w st vs → AreIn p w (pushed_slots outs st) (pushed xs vs)
 pushes_on p w [] st [] vs h k = k
 pushes_on p w [] st (x ∷ xs) vs h k = absurd h
 pushes_on p w (o ∷ outs) st [] vs h k = absurd h
 pushes_on p w (o ∷ outs) st (x ∷ xs) vs h k = pushes_on p w outs (o ∷ st) xs (x ∷ vs) h.1 (h.0, k)
 
-drops_off : (p : CoreProgram) (w : World) (ss st : List Slot) (n : ℕ) (vs : List Value) → length ss ≡ n → AreIn p w (pushed_slots ss st) vs → AreIn p w st (drop n vs)
+pub drops_off : (p : CoreProgram) (w : World) (ss st : List Slot) (n : ℕ) (vs : List Value) → length ss ≡ n → AreIn p w (pushed_slots ss st) vs → AreIn p w st (drop n vs)
 drops_off p w ss st n vs e h = subst (λ j. AreIn p w st (drop j vs)) e (off ss st vs h)
   where
     tail : (i : Slot) (st : List Slot) (n : ℕ) (vs : List Value) → AreIn p w (i ∷ st) (drop n vs) → AreIn p w st (drop (suc n) vs)

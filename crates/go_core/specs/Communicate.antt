@@ -113,13 +113,13 @@ resumed_at vs after g (f ∷ below) s = Some (moved g (done_with vs after f ∷ 
 abbrev pub resumed : List Value → List Task → ℕ → State → Option State
 resumed vs after g s = resumed_at vs after g (frames_of (slice_get s.goroutines g)) s
 
+abbrev pub offer_of : ℕ → Option Goroutine → Option Offer
+offer_of way None = None
+offer_of way (Some x) = slice_get (offers_of x.waiting) way
+
 -- the partner's way, where it is another goroutine that waits so
 abbrev pub partner_offer : ℕ → Move → State → Option Offer
-partner_offer g move s = if g == move.partner then None else way_of (slice_get s.goroutines move.partner)
-  where
-    way_of : Option Goroutine → Option Offer
-    way_of None = None
-    way_of (Some x) = slice_get (offers_of x.waiting) move.partner_way
+partner_offer g move s = if g == move.partner then None else offer_of move.partner_way (slice_get s.goroutines move.partner)
 
 module _ (p : CoreProgram) (g : ℕ) (move : Move) where
   -- both move in one step: the partner receives what is sent
@@ -186,13 +186,13 @@ module _ (p : CoreProgram) (g : ℕ) (move : Move) where
   abbrev pub reach : List ℕ → Option (List Task → List Task) → ℕ → List Offer → Frame → List Frame → State → Option State
   reach choices default_ u offers f below s = reached choices default_ u offers (ready_ways g s 0 offers) f below s
 
+  abbrev pub shape_in : Ty → Shape
+  shape_in (chan d u) = shape_of p.names u
+  shape_in u = shape_of p.names u
+
   -- the shape of a channel's elements
   abbrev pub element_shape : Ty → Shape
-  element_shape t = of_channel (underlying p.names t)
-    where
-      of_channel : Ty → Shape
-      of_channel (chan d u) = shape_of p.names u
-      of_channel u = shape_of p.names u
+  element_shape t = shape_in (underlying p.names t)
 
   abbrev pub send_offer : Ty → Option ℕ → Value → List Task → Offer
   send_offer t c x after = sending c x (weight (element_shape t)) after
@@ -280,12 +280,12 @@ module _ (p : CoreProgram) (g : ℕ) (move : Move) where
 
   -- ---- own: gates
 
+  abbrev pub number_in : Value → Option ℤ
+  number_in (cell.whole n ∷ []) = Some n
+  number_in _ = None
+
   abbrev pub gate_number : ℕ → State → Option ℤ
-  gate_number base s = number (read_cells base 1 s.memory.cells)
-    where
-      number : Value → Option ℤ
-      number (cell.whole n ∷ []) = Some n
-      number _ = None
+  gate_number base s = number_in (read_cells base 1 s.memory.cells)
 
   abbrev pub set_gate : ℕ → ℤ → State → State
   set_gate base n s = with_memory (with_written s.memory base (cell.whole n ∷ [])) s

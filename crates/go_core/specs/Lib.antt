@@ -51,5 +51,6 @@ pub mod TasksTyped
 pub mod WellFormed
 pub mod TypingLaws
 pub mod LocalSteps
+pub mod CommunicationSteps
 pub mod SoundSample
 pub mod CoreView

@@ -1,5 +1,11 @@
 //! Laws of the typing of states. No function here does anything.
 
+ghost use Rattle.go_core.specs.CommunicationSteps.{
+  CommunicationsKeep,
+  ReadyGoes,
+  UnreadyStays,
+  WaitingKeeps,
+};
 ghost use Rattle.go_core.specs.LocalSteps.{LocalStepsKeep};
 ghost use Rattle.go_core.specs.SoundSample.{SampleIsSound};
 ghost use Rattle.go_core.specs.TypingLaws.{
@@ -28,6 +34,16 @@ pub fn starts()
 /// A step that a frame takes by itself is there, and leaves a well formed state.
 pub fn local_steps()
     ensures keep { LocalStepsKeep }
+{}
+
+/// A goroutine that reaches an operation of communication has a step by some move, and one that waits has one where
+/// what it waits for is ready, and only there. The state after such a step is well formed, also where a partner
+/// moves in the same step.
+pub fn communication()
+    ensures reached { CommunicationsKeep }
+    ensures waiting { WaitingKeeps }
+    ensures ready { ReadyGoes }
+    ensures unready { UnreadyStays }
 {}
 
 /// There is a Sound program, so what is said of such programs is said of something.
