@@ -33,3 +33,6 @@ pub mod CommunicationGates
 pub mod CommunicationStays
 pub mod CommunicationSelects
 pub mod CommunicationSteps
+pub mod AssignPlaces
+pub mod AssignCursors
+pub mod AssignSteps

@@ -96,10 +96,10 @@ some_inj x y e = cc
 
 -- ---- variables
 
-record BaseFound (p : CoreProgram) (w : World) (v : ℕ) (t : Ty) (qs : List Place) : Type 0 where
-  base : ℕ
-  is_base : base_in v qs ≡ Some base
-  lies : Spans w.cells base (leaves_of p.names t)
+pub record BaseFound (p : CoreProgram) (w : World) (v : ℕ) (t : Ty) (qs : List Place) : Type 0 where
+  pub base : ℕ
+  pub is_base : base_in v qs ≡ Some base
+  pub lies : Spans w.cells base (leaves_of p.names t)
 
 by_id : (p : CoreProgram) (w : World) (q : Place) (qs : List Place) (v : ℕ) (t : Ty) → VarAt p w.cells q.var q.base → type_of_var p v ≡ Some t → (IsHad (ids_of qs) v → BaseFound p w v t qs) → (q.var ≡ v) ⊎ IsHad (ids_of qs) v
     → (b : Bool) → (q.var == v) ≡ b → BaseFound p w v t (q ∷ qs)
@@ -110,7 +110,7 @@ by_id p w q qs v t h e next had true r =
 by_id p w q qs v t h e next (inl s) false r = absurd (eqb-false q.var v r s)
 by_id p w q qs v t h e next (inr s) false r = let i = next s in record { base = i.base; is_base = ap (λ b. if b then Some q.base else base_in v qs) r ∙ i.is_base; lies = i.lies }
 
-base_found : (p : CoreProgram) (w : World) (qs : List Place) (v : ℕ) (t : Ty) → PlacesTyped p w qs → HasVar p (ids_of qs) v t → BaseFound p w v t qs
+pub base_found : (p : CoreProgram) (w : World) (qs : List Place) (v : ℕ) (t : Ty) → PlacesTyped p w qs → HasVar p (ids_of qs) v t → BaseFound p w v t qs
 base_found p w [] v t h k = absurd k.0
 base_found p w (q ∷ qs) v t h k = by_id p w q qs v t h.0 k.1 (λ s. base_found p w qs v t h.1 (s, k.1)) k.0 (q.var == v) refl
 
@@ -141,21 +141,21 @@ bases_found p w qs (v ∷ vs) h k =
 
 module _ (p : CoreProgram) (sound : Sound p) (choices : List ℕ) (move : Move) (g : ℕ) (s : State) (wf : WellFormed p s)
     (f0 : Frame) (slots0 : List Slot) (below : List Frame) (ft : FrameTyped p wf.world slots0 f0 below) (bt : FramesTyped p wf.world (gives_below f0.purpose (types_of_vars f0.results)) below) where
-  abbrev w : World
+  abbrev pub w : World
   w = wf.world
 
-  abbrev rs : List Ty
+  abbrev pub rs : List Ty
   rs = types_of_vars f0.results
 
-  abbrev T : List ℕ → List Slot → List Task → Type 0
+  abbrev pub T : List ℕ → List Slot → List Task → Type 0
   T had st ts = TasksTyped p w rs had st ts
 
   -- the frame with other tasks and values
-  abbrev with_ : List Task → List Value → Frame
+  abbrev pub with_ : List Task → List Value → Frame
   with_ ts vs = record f0 { tasks = ts; values = vs }
 
   -- the state that a step leaves is well formed, where its frame is typed in the world after it
-  keeps_in : (v : World) → Extends w v → (m : Memory) → MemoryTyped p v m → (x : Frame) → GoroutineTyped p v able (x ∷ below) → (units : ℕ) → WellFormed p (with_memory m (moved g (x ∷ below) units s))
+  pub keeps_in : (v : World) → Extends w v → (m : Memory) → MemoryTyped p v m → (x : Frame) → GoroutineTyped p v able (x ∷ below) → (units : ℕ) → WellFormed p (with_memory m (moved g (x ∷ below) units s))
   keeps_in v x m mt y h units = record {
     world = v;
     globals_lie = globals p w v x wf.globals_lie;
@@ -164,7 +164,7 @@ module _ (p : CoreProgram) (sound : Sound p) (choices : List ℕ) (move : Move) 
   }
 
   -- a frame that changed its tasks and values alone
-  typed_in : (v : World) → Extends w v → (had : List ℕ) → ids_of f0.places ≡ had → (slots : List Slot) (ts : List Task) (vs : List Value) → AreIn p v slots vs → T had slots ts → GoroutineTyped p v able (with_ ts vs ∷ below)
+  pub typed_in : (v : World) → Extends w v → (had : List ℕ) → ids_of f0.places ≡ had → (slots : List Slot) (ts : List Task) (vs : List Value) → AreIn p v slots vs → T had slots ts → GoroutineTyped p v able (with_ ts vs ∷ below)
   typed_in v x had e slots ts vs h t =
       let old = frame p w v x slots0 f0 below ft in (
         (
@@ -176,20 +176,20 @@ module _ (p : CoreProgram) (sound : Sound p) (choices : List ℕ) (move : Move) 
       )
 
   -- the memory stays
-  keeps : (had : List ℕ) → ids_of f0.places ≡ had → (slots : List Slot) (ts : List Task) (vs : List Value) (units : ℕ) → AreIn p w slots vs → T had slots ts → WellFormed p (moved g (with_ ts vs ∷ below) units s)
+  pub keeps : (had : List ℕ) → ids_of f0.places ≡ had → (slots : List Slot) (ts : List Task) (vs : List Value) (units : ℕ) → AreIn p w slots vs → T had slots ts → WellFormed p (moved g (with_ ts vs ∷ below) units s)
   keeps had e slots ts vs units h t = keeps_in w (same_world w) s.memory wf.memory_typed (with_ ts vs) (typed_in w (same_world w) had e slots ts vs h t) units
 
   none_asked : (t : Ty) → Answers p t no_specs
   none_asked t name package_ q e = absurd (cc)
 
   -- a run-time panic's value
-  panic_typed_in : (v : World) (q : RunPanic) → ScalarTyped p v (leaf empty_interface) (panic_value p.hidden q)
+  pub panic_typed_in : (v : World) (q : RunPanic) → ScalarTyped p v (leaf empty_interface) (panic_value p.hidden q)
   panic_typed_in v q =
       interface_typed no_specs p.hidden _ (none_asked p.hidden)
       (subst (λ ls. ScalarsTyped p v ls (cell.scalar (cell.text (text_of q)) cell.no_scalars)) (sym (under_leaves p sound.names_set p.hidden ∙ ap (leaves_of p.names) sound.hidden.is_text))
       (more_typed (leaf ty.str) [] (cell.text (text_of q)) cell.no_scalars (text_typed (text_of q)) none_typed))
 
-  to_panic : (y : Scalar) (ts : List Task) (vs : List Value) (units : ℕ) → ScalarTyped p w (leaf empty_interface) y → WellFormed p (moved g (f.to_panicking y (with_ ts vs) ∷ below) units s)
+  pub to_panic : (y : Scalar) (ts : List Task) (vs : List Value) (units : ℕ) → ScalarTyped p w (leaf empty_interface) y → WellFormed p (moved g (f.to_panicking y (with_ ts vs) ∷ below) units s)
   to_panic y ts vs units h =
       keeps_in w (same_world w) s.memory wf.memory_typed (f.to_panicking y (with_ ts vs))
       (([], record { values_typed = tt; places_typed = ft.places_typed; results_had = ft.results_had; deferred_typed = ft.deferred_typed; mode_typed = h; purpose_fits = ft.purpose_fits }, no_task (ids_of f0.places) []), bt) units
@@ -202,7 +202,7 @@ module _ (p : CoreProgram) (sound : Sound p) (choices : List ℕ) (move : Move) 
   did had e outs st ts vs no_step h t k = absurd k
 
   -- operands are taken off
-  operands : (ins st : List Slot) (n : ℕ) (ts : List Task) (vs : List Value) (next : List Value → Frame → Option State) → length ins ≡ n → AreIn p w (pushed_slots ins st) vs
+  pub operands : (ins st : List Slot) (n : ℕ) (ts : List Task) (vs : List Value) (next : List Value → Frame → Option State) → length ins ≡ n → AreIn p w (pushed_slots ins st) vs
       → ((ops others : List Value) → AreIn p w ins ops → AreIn p w st others → KeepsWell p (next ops (with_ ts others))) → KeepsWell p (f.on_operands n (with_ ts vs) next)
   operands ins st n ts vs next e h cont =
       let t = takes_off p w ins st 0 vs [] h in
@@ -211,7 +211,7 @@ module _ (p : CoreProgram) (sound : Sound p) (choices : List ℕ) (move : Move) 
       subst (λ o. KeepsWell p (f.with_popped o (with_ ts vs) next)) (sym q)
       (cont (t.operands ++ []) t.others (subst (AreIn p w ins) (sym (append-nil t.operands)) t.are_in) t.left_in)
 
-  operand : (i : Slot) (st : List Slot) (ts : List Task) (vs : List Value) (next : Value → Frame → Option State) → AreIn p w (i ∷ st) vs
+  pub operand : (i : Slot) (st : List Slot) (ts : List Task) (vs : List Value) (next : Value → Frame → Option State) → AreIn p w (i ∷ st) vs
       → ((x : Value) (others : List Value) → IsIn p w i x → AreIn p w st others → KeepsWell p (next x (with_ ts others))) → KeepsWell p (f.on_operand (with_ ts vs) next)
   operand i st ts vs next h cont =
       operands (i ∷ []) st 1 ts vs (f.with_one next) refl h (λ ops others a b. one_in p w i ops (λ us. KeepsWell p (f.with_one next us (with_ ts others))) a (λ x c. cont x others c b))

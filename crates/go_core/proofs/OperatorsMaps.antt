@@ -55,11 +55,11 @@ module _ (p : CoreProgram) (w : World) (k v : Ty) where
   more_typed [] e h a b = ((a, b), tt)
   more_typed (x ∷ es) e h a b = (h.0, more_typed es e h.1 a b)
 
-  abbrev StateTyped : Option MapState → Type 0
+  abbrev pub StateTyped : Option MapState → Type 0
   StateTyped None = Unit {0}
   StateTyped (Some s) = EntriesOf p w k v s.entries
 
-  entry_typed : (key value : Value) (s : MapState) → IsOf p w k key → IsOf p w v value → EntriesOf p w k v s.entries → StateTyped (d.with_entry p.names k key value s)
+  pub entry_typed : (key value : Value) (s : MapState) → IsOf p w k key → IsOf p w v value → EntriesOf p w k v s.entries → StateTyped (d.with_entry p.names k key value s)
   entry_typed key value s a b h = by_old (d.looked_up p.names k key s.entries)
     where
       by_room : (r : Bool) → StateTyped (if r then None else Some (d.with_new p.names k key value s))

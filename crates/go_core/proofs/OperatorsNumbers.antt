@@ -34,7 +34,7 @@ get_within [] k lt = absurd (omega arith)
 get_within (x ∷ xs) zero lt = (x, refl)
 get_within (x ∷ xs) (suc k) lt = get_within xs k (omega arith)
 
-struct_is : (u : Ty) (k : ℕ) (f : FieldTy) → field_in u k ≡ Some f → (fs : ty.Fields) × (u ≡ ty.struct fs)
+pub struct_is : (u : Ty) (k : ℕ) (f : FieldTy) → field_in u k ≡ Some f → (fs : ty.Fields) × (u ≡ ty.struct fs)
 struct_is (ty.struct fs) k f e = (fs, refl)
 struct_is _ k f e = absurd (cc)
 

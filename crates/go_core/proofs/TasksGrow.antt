@@ -73,7 +73,9 @@ module _ (p : CoreProgram) where
 
 module _ (p : CoreProgram) (w w' : World) (x : Extends w w') where
   cursor : (t : Ty) (c : Cursor) → CursorTyped p w t c → CursorTyped p w' t c
-  cursor t (numbers n count) h = tt
+  cursor (ty.int name) (numbers n count) h = tt
+  cursor (ty.slice u) (numbers n count) h = h
+  cursor (ty.pointer t) (numbers n count) h = h
   cursor (ty.array n u) (copied k left_) h = (h.0, lists_grow p w w' x _ _ h.1)
   cursor (ty.slice u) (elements n count base) h = spans p w w' x base _ h
   cursor (ty.pointer t) (elements n count base) h = (h.0, h.1, h.2, spans p w w' x base _ h.3)

@@ -102,7 +102,13 @@ module _ (p : CoreProgram) (g : ℕ) where
 
   abbrev pub over_array : Ty → Value → ℕ → Option Cursor
   over_array (array n t) (cell.pointer base ∷ []) next = Some (elements next n base)
+  over_array (array n t) (cell.nil ∷ []) next = Some (numbers 0 0)
   over_array _ x next = None
+
+  -- before the first of a map's entries
+  abbrev pub births_of : ℕ → Option MapState → Option Cursor
+  births_of name None = None
+  births_of name (Some st) = Some (entries (Some name) [] st.next_birth)
 
   -- nothing where it is nil
   abbrev pub cursor_of : Ty → Value → Memory → Option Cursor
@@ -113,11 +119,7 @@ module _ (p : CoreProgram) (g : ℕ) where
   cursor_of (slice t) (cell.slice base len capacity ∷ []) m = Some (elements 0 len base)
   cursor_of (slice t) (cell.nil ∷ []) m = Some (numbers 0 0)
   cursor_of str (cell.text bytes ∷ []) m = Some (characters 0 bytes)
-  cursor_of (mapping k v) (cell.map name ∷ []) m = births (slice_get m.maps name)
-    where
-      births : Option MapState → Option Cursor
-      births None = None
-      births (Some st) = Some (entries (Some name) [] st.next_birth)
+  cursor_of (mapping k v) (cell.map name ∷ []) m = births_of name (slice_get m.maps name)
   cursor_of (mapping k v) (cell.nil ∷ []) m = Some (entries None [] 0)
   cursor_of _ x m = None
 
@@ -148,14 +150,14 @@ module _ (p : CoreProgram) (g : ℕ) where
   abbrev pub number_value : ℕ → Value
   number_value n = cell.whole (pos n) ∷ []
 
+  abbrev pub target_size : Ty → ℕ
+  target_size (array n u) = size (shape_of p.names u)
+  target_size _ = 1
+
   abbrev pub element_size : Ty → ℕ
   element_size (array n t) = size (shape_of p.names t)
   element_size (slice t) = size (shape_of p.names t)
-  element_size (pointer t) = of_target (underlying p.names t)
-    where
-      of_target : Ty → ℕ
-      of_target (array n u) = size (shape_of p.names u)
-      of_target _ = 1
+  element_size (pointer t) = target_size (underlying p.names t)
   element_size _ = 1
 
   abbrev pub is_in : ℕ → List ℕ → Bool
@@ -177,14 +179,14 @@ module _ (p : CoreProgram) (g : ℕ) where
   entries_of None m = []
   entries_of (Some name) m = entries_at (cell.map name ∷ []) m
 
+  abbrev pub entry_next : Option ℕ → ℕ → List ℕ → ℕ → Option Entry → Next
+  entry_next name birth produced since None = not_so
+  entry_next name birth produced since (Some e) = next e.key e.value (entries name (birth ∷ produced) since)
+
   -- the order of a map is free
   abbrev pub next_entry : Option ℕ → Option ℕ → List ℕ → ℕ → Memory → Next
   next_entry None name produced since m = if all_produced produced since (entries_of name m) then over else not_so
-  next_entry (Some birth) name produced since m = of_entry (entry_born birth produced (entries_of name m))
-    where
-      of_entry : Option Entry → Next
-      of_entry None = not_so
-      of_entry (Some e) = next e.key e.value (entries name (birth ∷ produced) since)
+  next_entry (Some birth) name produced since m = entry_next name birth produced since (entry_born birth produced (entries_of name m))
 
   abbrev pub next_character : ℕ → List ℕ → Next
   next_character offset [] = over

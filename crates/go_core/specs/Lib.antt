@@ -52,5 +52,6 @@ pub mod WellFormed
 pub mod TypingLaws
 pub mod LocalSteps
 pub mod CommunicationSteps
+pub mod AssignSteps
 pub mod SoundSample
 pub mod CoreView

@@ -88,6 +88,14 @@ range_of_a_pointer = program (
     ∷ core.range_over 8 (ty.pointer three) (core.zero_value (ty.pointer three)) None (maybe 3 int) no_stmts
     ∷ []) []
 
+-- through a nil pointer to an array that has no elements
+abbrev pub range_of_no_elements : CoreProgram
+range_of_no_elements = program (
+    let_var 3 int
+    ∷ core.range_over 7 (ty.pointer (ty.array 0 int)) (core.zero_value (ty.pointer (ty.array 0 int))) None (maybe 3 int) (body (say (str (codes "not here") ∷ []) ∷ []))
+    ∷ say (str (codes "end") ∷ [])
+    ∷ []) []
+
 -- "aé" and a byte that begins no character
 abbrev pub range_of_a_text : CoreProgram
 range_of_a_text = program (
@@ -136,6 +144,7 @@ pub record RowsControl : Type 0 where
   pub array_is_copied : outcome range_of_an_array [] ≡ prints (codes "0 1\n1 2\n2 3\n")
   pub length_is_fixed : outcome range_of_a_slice [] ≡ prints (codes "0 1 3\n1 9 4\n")
   pub pointed_array_is_not_copied : outcome range_of_a_pointer [] ≡ panics_with (codes "1\n2\n9\n") (codes "runtime error: invalid memory address or nil pointer dereference")
+  pub nothing_is_pointed_at : outcome range_of_no_elements [] ≡ prints (codes "end\n")
   pub characters_are_produced : outcome range_of_a_text [] ≡ prints (codes "0 97\n1 233\n3 65533\n")
   pub numbers_are_counted : outcome range_of_a_number [] ≡ prints (codes "0\n1\n")
   pub entries_in_one_order : ranged range_of_a_map (0 ∷ 1 ∷ []) ≡ prints (codes "10 1\n20 2\n")

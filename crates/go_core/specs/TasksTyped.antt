@@ -99,13 +99,16 @@ module _ (p : CoreProgram) where
 
   -- how far a range over a type has come
   abbrev pub CursorTyped : World → Ty → Cursor → Type 0
-  CursorTyped w t (numbers next count) = Unit {0}
+  CursorTyped w (ty.int name) (numbers next count) = Unit {0}
   CursorTyped w (ty.array n u) (copied next left_) = (k : ℕ) × Lists p w (times k (leaves_of p.names u)) left_
   CursorTyped w (ty.slice u) (elements next count base) = Spans w.cells base (times count (leaves_of p.names u))
   CursorTyped w (ty.pointer t) (elements next count base) = (n : ℕ) × (u : Ty) × (underlying p.names t ≡ ty.array n u) × Spans w.cells base (times count (leaves_of p.names u))
   CursorTyped w ty.str (characters offset left_) = Unit {0}
   CursorTyped w (ty.mapping k v) (entries None produced since) = Unit {0}
   CursorTyped w (ty.mapping k v) (entries (Some name) produced since) = slice_get w.maps name ≡ Some (record { key = k; value = v })
+  -- what is nil has no elements
+  CursorTyped w (ty.slice u) (numbers next count) = count ≡ 0
+  CursorTyped w (ty.pointer t) (numbers next count) = count ≡ 0
   CursorTyped w _ _ = ⊥
 
   abbrev pub HasIfThere : List ℕ → Option Var → Type 0

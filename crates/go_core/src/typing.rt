@@ -1,5 +1,6 @@
 //! Laws of the typing of states. No function here does anything.
 
+ghost use Rattle.go_core.specs.AssignSteps.{RangeTurnsKeep, StoresKeep};
 ghost use Rattle.go_core.specs.CommunicationSteps.{
   CommunicationsKeep,
   ReadyGoes,
@@ -44,6 +45,13 @@ pub fn communication()
     ensures waiting { WaitingKeeps }
     ensures ready { ReadyGoes }
     ensures unready { UnreadyStays }
+{}
+
+/// A step of an assignment, the beginning of a range, and a receiver that is read through a pointer are there, and
+/// so is a turn of a range by some move. The state after such a step is well formed.
+pub fn assignments()
+    ensures stores { StoresKeep }
+    ensures range_turns { RangeTurnsKeep }
 {}
 
 /// There is a Sound program, so what is said of such programs is said of something.

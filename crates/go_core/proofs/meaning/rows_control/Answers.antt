@@ -2,7 +2,7 @@ use Rattle.std.proofs.Common.{refl}
 use Rattle.std.specs.Prelude.{◌≡◌, [], ◌∷◌, codes, None}
 use Rattle.std.specs.Fmt.{digits}
 use Rattle.go_core.specs.MeaningWords.{outcome, prints, panics_with}
-use Rattle.go_core.specs.RowsControl.{loop, labels, switches, range_of_an_array, range_of_a_slice, range_of_a_pointer, range_of_a_text, range_of_a_number, range_of_a_map, range_while_deleting, ranged}
+use Rattle.go_core.specs.RowsControl.{loop, labels, switches, range_of_an_array, range_of_a_slice, range_of_a_pointer, range_of_no_elements, range_of_a_text, range_of_a_number, range_of_a_map, range_while_deleting, ranged}
 use Rattle.go_core.proofs.meaning.rows_control.Goals as goal
 
 loops_go_on_and_end_holds : outcome loop [] ≡ prints (codes "0\n2\nafter 3\n")
@@ -28,6 +28,10 @@ length_is_fixed_holds = refl
 pointed_array_is_not_copied_holds : outcome range_of_a_pointer [] ≡ panics_with (codes "1\n2\n9\n") (codes "runtime error: invalid memory address or nil pointer dereference")
 unfolding digits
 pointed_array_is_not_copied_holds = refl
+
+nothing_is_pointed_at_holds : outcome range_of_no_elements [] ≡ prints (codes "end\n")
+unfolding digits
+nothing_is_pointed_at_holds = refl
 
 characters_are_produced_holds : outcome range_of_a_text [] ≡ prints (codes "0 97\n1 233\n3 65533\n")
 unfolding digits
@@ -66,6 +70,7 @@ returns c = record {
     array_is_copied = array_is_copied_holds;
     length_is_fixed = length_is_fixed_holds;
     pointed_array_is_not_copied = pointed_array_is_not_copied_holds;
+    nothing_is_pointed_at = nothing_is_pointed_at_holds;
     characters_are_produced = characters_are_produced_holds;
     numbers_are_counted = numbers_are_counted_holds;
     entries_in_one_order = entries_in_one_order_holds;
