@@ -24,6 +24,11 @@ pub mod OperatorsAll
 pub mod StartTyped
 pub mod FramesGrow
 pub mod LocalFrames
+pub mod TypeSame
+pub mod EnteredVars
+pub mod EnteredTyped
+pub mod ResolvedTyped
+pub mod CallSteps
 pub mod SampleSound
 pub mod CommunicationOpened
 pub mod CommunicationFrames

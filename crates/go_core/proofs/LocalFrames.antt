@@ -120,12 +120,12 @@ known_var p w [] v h k = absurd k
 known_var p w (q ∷ qs) v h (inl e) = (h.0.type_, ap (type_of_var p) (sym e) ∙ h.0.is_known)
 known_var p w (q ∷ qs) v h (inr k) = known_var p w qs v h.1 k
 
-record BasesFound (p : CoreProgram) (w : World) (vs : List ℕ) (qs : List Place) : Type 0 where
-  bases : List ℕ
-  are_bases : bases_of vs qs ≡ Some bases
-  lie : AreAt p w.cells vs bases
+pub record BasesFound (p : CoreProgram) (w : World) (vs : List ℕ) (qs : List Place) : Type 0 where
+  pub bases : List ℕ
+  pub are_bases : bases_of vs qs ≡ Some bases
+  pub lie : AreAt p w.cells vs bases
 
-bases_found : (p : CoreProgram) (w : World) (qs : List Place) (vs : List ℕ) → PlacesTyped p w qs → AreHad (ids_of qs) vs → BasesFound p w vs qs
+pub bases_found : (p : CoreProgram) (w : World) (qs : List Place) (vs : List ℕ) → PlacesTyped p w qs → AreHad (ids_of qs) vs → BasesFound p w vs qs
 bases_found p w qs [] h k = record { bases = []; are_bases = refl; lie = tt }
 bases_found p w qs (v ∷ vs) h k =
     let t = known_var p w qs v h k.0 in

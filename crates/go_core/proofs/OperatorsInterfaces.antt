@@ -61,7 +61,7 @@ module _ (p : CoreProgram) (sound : Sound p) where
 
   -- ---- what a type implements
 
-  has_row : (t : Ty) (name package_ : List ℕ) (params results : Tys) (variadic : Bool) (o : Option ℕ) → row_of p (record { type_ = t; name = name; package_ = package_ }) ≡ o
+  pub has_row : (t : Ty) (name package_ : List ℕ) (params results : Tys) (variadic : Bool) (o : Option ℕ) → row_of p (record { type_ = t; name = name; package_ = package_ }) ≡ o
       → i.has_signature params results variadic (i.func_of_row p o) ≡ true → HasRow p t (record { name = name; package_ = package_ }) params results variadic
   has_row t name package_ params results variadic None e h = absurd (cc)
   has_row t name package_ params results variadic (Some at) e h = by_row (slice_get p.methods at) refl h

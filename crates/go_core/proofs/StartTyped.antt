@@ -27,7 +27,7 @@ some_inj x y e = cc
 
 -- ---- declared variables
 
-abbrev Among : List Var → Var → Type 0
+abbrev pub Among : List Var → Var → Type 0
 Among [] v = ⊥
 Among (x ∷ xs) v = (x ≡ v) ⊎ Among xs v
 
@@ -40,7 +40,7 @@ by_same : (x v : Var) (xs : List Var) → ((x.id ≡ v.id) → ⊥) → var_type
 by_same x v xs n h true e = absurd (n (eqb-true x.id v.id e))
 by_same x v xs n h false e = h
 
-known : (xs : List Var) (v : Var) → AllPairs DifferInId xs → Among xs v → var_type v.id xs ≡ Some v.type_
+pub known : (xs : List Var) (v : Var) → AllPairs DifferInId xs → Among xs v → var_type v.id xs ≡ Some v.type_
 known [] v pairs h = absurd h
 known (x ∷ xs) v pairs (inl e) =
     subst (λ (y : Var). (if y.id == v.id then Some y.type_ else var_type v.id xs) ≡ Some v.type_) (sym e)
@@ -51,12 +51,12 @@ known (x ∷ xs) v pairs (inr h) =
     let apart : x.id ≡ v.id → ⊥ = λ e. pairs 0 (suc i.0) x (omega arith) (omega (arith, lt)) (e ∙ ap (λ (y : Var). y.id) (sym (i.2 x))) in
     by_same x v xs apart (known xs v (λ j k d l m. pairs (suc j) (suc k) d (omega (arith, l)) (omega (arith, m))) h) (x.id == v.id) refl
 
-among_left : (xs ys : List Var) (v : Var) → Among xs v → Among (xs ++ ys) v
+pub among_left : (xs ys : List Var) (v : Var) → Among xs v → Among (xs ++ ys) v
 among_left [] ys v h = absurd h
 among_left (x ∷ xs) ys v (inl e) = inl e
 among_left (x ∷ xs) ys v (inr h) = inr (among_left xs ys v h)
 
-among_right : (xs ys : List Var) (v : Var) → Among ys v → Among (xs ++ ys) v
+pub among_right : (xs ys : List Var) (v : Var) → Among ys v → Among (xs ++ ys) v
 among_right [] ys v h = h
 among_right (x ∷ xs) ys v h = inr (among_right xs ys v h)
 
@@ -65,7 +65,7 @@ among_globals [] n x v e h = absurd (cc)
 among_globals (g ∷ gs) zero x v e h = among_left g.vars (flat_map initialiser_vars gs) v (subst (λ (y : PackageVar). Among y.vars v) (sym (some_inj g x e)) h)
 among_globals (g ∷ gs) (suc n) x v e h = among_right g.vars (flat_map initialiser_vars gs) v (among_globals gs n x v e h)
 
-all_vars_of : (p : CoreProgram) (vs : List Var) → ((v : Var) → Among vs v → IsVar p v) → AreVars p vs
+pub all_vars_of : (p : CoreProgram) (vs : List Var) → ((v : Var) → Among vs v → IsVar p v) → AreVars p vs
 all_vars_of p [] h = tt
 all_vars_of p (v ∷ vs) h = (h v (inl refl), all_vars_of p vs (λ u k. h u (inr k)))
 

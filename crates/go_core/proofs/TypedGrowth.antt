@@ -31,7 +31,7 @@ module _ (p : CoreProgram) (w w' : World) (x : Extends w w') where
   pub var_at : (v b : ℕ) → VarAt p w.cells v b → VarAt p w'.cells v b
   var_at v b h = record { type_ = h.type_; is_known = h.is_known; lies = spans b (leaves_of p.names h.type_) h.lies }
 
-  are_at : (vs bs : List ℕ) → AreAt p w.cells vs bs → AreAt p w'.cells vs bs
+  pub are_at : (vs bs : List ℕ) → AreAt p w.cells vs bs → AreAt p w'.cells vs bs
   are_at [] [] h = tt
   are_at [] (b ∷ bs) h = absurd h
   are_at (v ∷ vs) [] h = absurd h

@@ -140,13 +140,14 @@ abbrev pub function_with : ℕ → List Value → Option (List ℕ) → Resolved
 function_with func vs None = unresolved
 function_with func vs (Some bases) = ready func bases None vs
 
+-- by the row at a place
+abbrev pub row_with : List Value → ℕ → Option MethodRow → Resolved
+row_with vs k None = unresolved
+row_with vs k (Some r) = ready r.func [] (Some k) vs
+
 abbrev pub method_with : CoreProgram → List Value → Option ℕ → Resolved
 method_with p vs None = unresolved
-method_with p vs (Some k) = of_row (slice_get p.methods k)
-  where
-    of_row : Option MethodRow → Resolved
-    of_row None = unresolved
-    of_row (Some r) = ready r.func [] (Some k) vs
+method_with p vs (Some k) = row_with vs k (slice_get p.methods k)
 
 abbrev pub resolved : CoreProgram → Called → List Place → List Value → Resolved
 resolved p (the_function func) places vs = function_with func vs (captured_by p func places)

@@ -53,5 +53,6 @@ pub mod TypingLaws
 pub mod LocalSteps
 pub mod CommunicationSteps
 pub mod AssignSteps
+pub mod CallSteps
 pub mod SoundSample
 pub mod CoreView

@@ -1,6 +1,7 @@
 //! Laws of the typing of states. No function here does anything.
 
 ghost use Rattle.go_core.specs.AssignSteps.{RangeTurnsKeep, StoresKeep};
+ghost use Rattle.go_core.specs.CallSteps.{CallStepsKeep};
 ghost use Rattle.go_core.specs.CommunicationSteps.{
   CommunicationsKeep,
   ReadyGoes,
@@ -52,6 +53,11 @@ pub fn communication()
 pub fn assignments()
     ensures stores { StoresKeep }
     ensures range_turns { RangeTurnsKeep }
+{}
+
+/// A step by which a frame comes or goes is there, and leaves a well formed state.
+pub fn call_steps()
+    ensures keep { CallStepsKeep }
 {}
 
 /// There is a Sound program, so what is said of such programs is said of something.
