@@ -41,3 +41,4 @@ pub mod CommunicationSteps
 pub mod AssignPlaces
 pub mod AssignCursors
 pub mod AssignSteps
+pub mod WholeSteps

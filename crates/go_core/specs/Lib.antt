@@ -54,5 +54,6 @@ pub mod LocalSteps
 pub mod CommunicationSteps
 pub mod AssignSteps
 pub mod CallSteps
+pub mod WholeSteps
 pub mod SoundSample
 pub mod CoreView

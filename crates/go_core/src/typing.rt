@@ -16,6 +16,12 @@ ghost use Rattle.go_core.specs.TypingLaws.{
   StartsWellFormed,
   StmtsOpenTyped,
 };
+ghost use Rattle.go_core.specs.WholeSteps.{
+  AbleGoWell,
+  GoingGoesOn,
+  ReachedWellFormed,
+  StepsKeep,
+};
 
 /// What remains of a frame's body is typed where its nodes are sound.
 pub fn opening()
@@ -58,6 +64,15 @@ pub fn assignments()
 /// A step by which a frame comes or goes is there, and leaves a well formed state.
 pub fn call_steps()
     ensures keep { CallStepsKeep }
+{}
+
+/// A move that can be made leaves a well formed state, so each state that a run of a Sound program comes to is one.
+/// Each able goroutine has a step by some move of its own, and while the run has not ended some move can be made.
+pub fn steps()
+    ensures able { AbleGoWell }
+    ensures keep { StepsKeep }
+    ensures reached { ReachedWellFormed }
+    ensures goes_on { GoingGoesOn }
 {}
 
 /// There is a Sound program, so what is said of such programs is said of something.
