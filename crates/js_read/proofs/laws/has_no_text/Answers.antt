@@ -1,5 +1,0 @@
-use Rattle.js_read.proofs.SpareParentheses.{has_no_text}
-use Rattle.js_read.proofs.laws.has_no_text.Goals as goal
-
-pub returns : goal.returns
-returns c = has_no_text

@@ -1,5 +1,0 @@
-use Rattle.js_read.proofs.OneTree as one
-use Rattle.js_read.proofs.laws.one_list.Goals as goal
-
-pub returns : goal.returns
-returns c text at a b p q = one.one_list p b q

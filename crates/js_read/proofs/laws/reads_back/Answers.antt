@@ -1,5 +1,0 @@
-use Rattle.js_read.proofs.PrintedItems.{read_back}
-use Rattle.js_read.proofs.laws.reads_back.Goals as goal
-
-pub returns : goal.returns
-returns c s q = read_back s q
