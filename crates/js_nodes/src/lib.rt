@@ -1,0 +1,9 @@
+//! The parts of the script reader that read single tokens, and the nodes of the expressions that it
+//! makes.
+#![tactic(auto)]
+
+pub mod infix;
+pub mod literal;
+pub mod look;
+pub mod node;
+mod part;
