@@ -1,0 +1,308 @@
+//! Statements: Block, List and Stmt, but for Simple and those with a header.
+
+ghost use Rattle.std.specs.Prelude.{◌≡◌, ◌∷◌, [], true, false};
+ghost use Rattle.go_syntax.specs.Tree as t;
+ghost use Rattle.go_syntax.specs.View.{expr_view, exprs_of, block_view, stmt_view, decl_view};
+ghost use Rattle.go_grammar.specs.Frames as f;
+ghost use Rattle.go_grammar.specs.ExprSteps as steps;
+ghost use Rattle.go_grammar.specs.StmtSteps as rows;
+ghost use Rattle.go_frames.specs.FrameView.{Comes, token_of, exprs_in, stmts_in, stmt_frame, stack_view};
+ghost use Rattle.go_stmt_steps.specs.Parts.{end_return};
+
+use crate::control::{begin_for, begin_if};
+use gj_base::Place;
+use go_ends::lost::{lost, lost_at};
+use go_ends::refused::{stuck_at, stuck_with};
+use go_expr_steps::expr::{begin_expr, then_expr};
+use go_frames::at::{At, begins_expr, begins_stmt};
+use go_frames::ctx::Ctx;
+use go_frames::form::{
+    block, block_stmt, break_to, decl_stmt, defer, empty, fall_through, go, labeled, return_stmt,
+};
+use go_frames::frame::{Frame, Mode, StmtFrame, SwitchFrame, Value};
+use go_frames::node::name;
+use go_frames::stack::{Answer, Stack, done, goes, open_block, over};
+use go_simple_steps::decl::begin_decl;
+use go_simple_steps::lists::{with_expr, with_stmt};
+use go_simple_steps::simple::{
+    after_assigned, after_defined, after_left, after_sent, begin_simple, right_side,
+};
+use go_syntax::tree::{Block, Decl, Expr, Name, Stmt};
+use go_syntax::{Keyword, Operator, TokenKind};
+use std::alloc::Global;
+
+/// A statement that begins with the token, after so many labels.
+pub fn begin_stmt(
+    alloc: Global,
+    at: At,
+    text: &[u8],
+    blocks: u32,
+    labels: u32,
+    stack: Stack,
+) -> Answer
+    ensures value { Comes result (rows.begin_stmt (token_of at text.now) blocks labels (stack_view stack)) }
+{
+    if at.is(Operator::LeftBrace) {
+        let stack = stack.with(Frame::Stmt(StmtFrame::Inner))?;
+        return open_block(alloc, at, blocks, stack);
+    }
+    match at.kind {
+        TokenKind::Word(word) => begin_with_word(alloc, at, text, word, blocks, stack),
+        _ => begin_simple(alloc, at, text, Ctx::new(blocks), Mode::Stmt(labels), stack),
+    }
+}
+
+fn begin_with_word(
+    alloc: Global,
+    at: At,
+    text: &[u8],
+    word: Keyword,
+    blocks: u32,
+    stack: Stack,
+) -> Answer
+    ensures value { Comes result (rows.begin_word_stmt (token_of at text.now) word blocks (stack_view stack)) }
+{
+    match word {
+        Keyword::Const => declared(alloc, at, blocks, stack),
+        Keyword::Type => declared(alloc, at, blocks, stack),
+        Keyword::Var => declared(alloc, at, blocks, stack),
+        Keyword::Go => then_called(StmtFrame::Go(at.place), blocks, stack),
+        Keyword::Defer => then_called(StmtFrame::Defer(at.place), blocks, stack),
+        Keyword::Return => goes(stack, Frame::Stmt(StmtFrame::Return(blocks, at.place))),
+        Keyword::Break => goes(stack, Frame::Stmt(StmtFrame::Break(at.place))),
+        Keyword::Continue => goes(stack, Frame::Stmt(StmtFrame::Continue(at.place))),
+        Keyword::Fallthrough => done(stack, Value::Stmt(fall_through(at.place))),
+        Keyword::If => begin_if(at, blocks, stack),
+        Keyword::For => begin_for(at, blocks, stack),
+        Keyword::Switch => goes(stack, Frame::Switch(SwitchFrame::Head(blocks, at.place))),
+        Keyword::Select => goes(stack, Frame::Switch(SwitchFrame::Select(blocks, at.place))),
+        _ => begin_simple(alloc, at, text, Ctx::new(blocks), Mode::Header, stack),
+    }
+}
+
+/// A declaration in a list of statements.
+fn declared(alloc: Global, at: At, blocks: u32, stack: Stack) -> Answer
+    ensures value { Comes result (rows.begin_decl (token_of at []) blocks (f.OfStmt f.Declared ∷ stack_view stack)) }
+{
+    let stack = stack.with(Frame::Stmt(StmtFrame::Decl))?;
+    begin_decl(alloc, at, blocks, stack)
+}
+
+/// After `go` or `defer`.
+fn then_called(frame: StmtFrame, blocks: u32, stack: Stack) -> Answer
+    ensures value { Comes result (steps.then_expr (f.new_ctx blocks) (f.OfStmt (stmt_frame frame) ∷ stack_view stack)) }
+{
+    let stack = stack.with(Frame::Stmt(frame))?;
+    then_expr(Ctx::new(blocks), stack)
+}
+
+/// What the top frame does at the token.
+pub fn stmt_row(alloc: Global, at: At, text: &[u8], frame: StmtFrame, stack: Stack) -> Answer
+    ensures value { Comes result (rows.stmt_row (token_of at text.now) (stmt_frame frame) (stack_view stack)) }
+{
+    match frame {
+        StmtFrame::Block(blocks, place, stmts) => list(
+            alloc, at, text, blocks, place, stmts, stack,
+        ),
+        StmtFrame::Return(blocks, place) => after_return(alloc, at, text, blocks, place, stack),
+        StmtFrame::Break(place) => after_break(alloc, at, text, place, true, stack),
+        StmtFrame::Continue(place) => after_break(alloc, at, text, place, false, stack),
+        StmtFrame::Label(blocks, labels) => after_label(alloc, at, text, blocks, labels, stack),
+        StmtFrame::Right(spot, left, fresh) => right_side(
+            alloc, at, text, spot, left, fresh, stack,
+        ),
+        other => stuck_at(Frame::Stmt(other), stack),
+    }
+}
+
+/// List = [Stmt] {";" [Stmt]}
+fn list(
+    alloc: Global,
+    at: At,
+    text: &[u8],
+    blocks: u32,
+    place: Place,
+    stmts: Vec<Stmt>,
+    stack: Stack,
+) -> Answer
+    ensures value { Comes result (rows.stmt_row (token_of at text.now) (f.InBlock blocks place (stmts_in stmts.items)) (stack_view stack)) }
+{
+    if at.is_semicolon() || at.is(Operator::RightBrace) {
+        return after_stmt(at, blocks, place, stmts, stack);
+    }
+    let stack = stack.with(Frame::Stmt(StmtFrame::Block(blocks, place, stmts)))?;
+    begin_stmt(alloc, at, text, blocks, 0, stack)
+}
+
+/// After a statement of a block: `;` or `}`.
+fn after_stmt(at: At, blocks: u32, place: Place, stmts: Vec<Stmt>, stack: Stack) -> Answer
+    ensures value { Comes result (rows.after_stmt (token_of at []) blocks place (stmts_in stmts.items) (stack_view stack)) }
+{
+    if at.is_semicolon() {
+        return goes(stack, Frame::Stmt(StmtFrame::Block(blocks, place, stmts)));
+    }
+    if at.is(Operator::RightBrace) {
+        return done(stack, Value::Block(block(place, stmts, at.place)));
+    }
+    stuck_at(Frame::Stmt(StmtFrame::Block(blocks, place, stmts)), stack)
+}
+
+fn after_return(
+    alloc: Global,
+    at: At,
+    text: &[u8],
+    blocks: u32,
+    place: Place,
+    stack: Stack,
+) -> Answer
+    ensures value { Comes result (rows.stmt_row (token_of at text.now) (f.AtReturn blocks place) (stack_view stack)) }
+{
+    if begins_expr(at.kind) {
+        let frame = StmtFrame::Returned(blocks, place, Vec::new(alloc));
+        let stack = stack.with(Frame::Stmt(frame))?;
+        return begin_expr(alloc, at, text, Ctx::new(blocks), stack);
+    }
+    over(stack, Value::Stmt(return_stmt(place, Vec::new(alloc))))
+}
+
+fn after_break(
+    alloc: Global,
+    at: At,
+    text: &[u8],
+    place: Place,
+    is_break: bool,
+    stack: Stack,
+) -> Answer
+    ensures value { Comes result (rows.stmt_row (token_of at text.now) (f.AtBreak place is_break) (stack_view stack)) }
+{
+    if !at.is_name() {
+        return over(stack, Value::Stmt(break_to(place, is_break, None)));
+    }
+    match name(alloc, at.place, text) {
+        Ok(name) => done(stack, Value::Stmt(break_to(place, is_break, Some(name)))),
+        Err(error) => lost(error, stack),
+    }
+}
+
+fn after_label(alloc: Global, at: At, text: &[u8], blocks: u32, labels: u32, stack: Stack) -> Answer
+    ensures value { Comes result (rows.stmt_row (token_of at text.now) (f.AfterLabel blocks labels) (stack_view stack)) }
+{
+    if begins_stmt(at) {
+        return begin_stmt(alloc, at, text, blocks, labels, stack);
+    }
+    over(stack, Value::Stmt(empty(at.place)))
+}
+
+/// What a frame that waits for an expression does with it at the token.
+pub fn stmt_meets_expr(alloc: Global, at: At, frame: StmtFrame, e: Expr, stack: Stack) -> Answer
+    ensures value { Comes result (rows.stmt_meets_expr (token_of at []) (stmt_frame frame) (expr_view e) (stack_view stack)) }
+{
+    match frame {
+        StmtFrame::Go(place) => after_go(alloc, place, e, stack),
+        StmtFrame::Defer(place) => after_defer(alloc, place, e, stack),
+        StmtFrame::Returned(blocks, place, es) => returned(at, blocks, place, es, e, stack),
+        StmtFrame::Simple(spot, es) => after_left(alloc, at, spot, es, e, stack),
+        StmtFrame::Assign(spot, left, op, right) => after_assigned(
+            at, spot, left, op, right, e, stack,
+        ),
+        StmtFrame::Define(spot, left, right) => after_defined(at, spot, left, right, e, stack),
+        StmtFrame::Send(place, cs) => after_sent(alloc, place, cs, e, stack),
+        other => stuck_with(Frame::Stmt(other), Value::Expr(e), stack),
+    }
+}
+
+fn after_go(alloc: Global, place: Place, e: Expr, stack: Stack) -> Answer
+    ensures value { Comes result (f.Over (f.AStmt (t.GoStmt place (expr_view e))) (stack_view stack)) }
+{
+    match go(alloc, place, e) {
+        Ok(s) => over(stack, Value::Stmt(s)),
+        Err(error) => lost(error, stack),
+    }
+}
+
+fn after_defer(alloc: Global, place: Place, e: Expr, stack: Stack) -> Answer
+    ensures value { Comes result (f.Over (f.AStmt (t.DeferStmt place (expr_view e))) (stack_view stack)) }
+{
+    match defer(alloc, place, e) {
+        Ok(s) => over(stack, Value::Stmt(s)),
+        Err(error) => lost(error, stack),
+    }
+}
+
+fn returned(at: At, blocks: u32, place: Place, es: Vec<Expr>, e: Expr, stack: Stack) -> Answer
+    ensures value { Comes result (rows.stmt_meets_expr (token_of at []) (f.Returned blocks place (exprs_in es.items)) (expr_view e) (stack_view stack)) }
+{
+    match with_expr(es, e) {
+        Ok(es) => end_return(at, blocks, place, es, stack),
+        Err(error) => lost(error, stack),
+    }
+}
+
+fn end_return(at: At, blocks: u32, place: Place, es: Vec<Expr>, stack: Stack) -> Answer
+    ensures value { Comes result (end_return (token_of at []) blocks place (exprs_in es.items) (stack_view stack)) }
+{
+    if at.is(Operator::Comma) {
+        let stack = stack.with(Frame::Stmt(StmtFrame::Returned(blocks, place, es)))?;
+        return then_expr(Ctx::new(blocks), stack);
+    }
+    over(stack, Value::Stmt(return_stmt(place, es)))
+}
+
+/// What a frame that waits for a statement does with it at the token.
+pub fn stmt_meets_stmt(alloc: Global, at: At, frame: StmtFrame, s: Stmt, stack: Stack) -> Answer
+    ensures value { Comes result (rows.stmt_meets_stmt (token_of at []) (stmt_frame frame) (stmt_view s) (stack_view stack)) }
+{
+    match frame {
+        StmtFrame::Block(blocks, place, stmts) => listed(at, blocks, place, stmts, s, stack),
+        StmtFrame::Labeled(name) => after_labeled(alloc, name, s, stack),
+        other => stuck_with(Frame::Stmt(other), Value::Stmt(s), stack),
+    }
+}
+
+/// A statement of a block.
+fn listed(at: At, blocks: u32, place: Place, stmts: Vec<Stmt>, s: Stmt, stack: Stack) -> Answer
+    ensures value { Comes result (rows.stmt_meets_stmt (token_of at []) (f.InBlock blocks place (stmts_in stmts.items)) (stmt_view s) (stack_view stack)) }
+{
+    match with_stmt(stmts, s) {
+        Ok(stmts) => after_stmt(at, blocks, place, stmts, stack),
+        Err(error) => lost(error, stack),
+    }
+}
+
+fn after_labeled(alloc: Global, name: Name, s: Stmt, stack: Stack) -> Answer
+    ensures value { Comes result (f.Over (f.AStmt (t.LabeledStmt name.place name (stmt_view s))) (stack_view stack)) }
+{
+    match labeled(alloc, name, s) {
+        Ok(s) => over(stack, Value::Stmt(s)),
+        Err(error) => lost(error, stack),
+    }
+}
+
+/// What a frame that waits for a block does with it.
+pub fn stmt_meets_block(frame: StmtFrame, block: Block, stack: Stack) -> Answer
+    ensures value { Comes result (rows.stmt_meets_block (stmt_frame frame) (block_view block) (stack_view stack)) }
+{
+    match frame {
+        StmtFrame::Inner => over(stack, Value::Stmt(block_stmt(block))),
+        other => stuck_with(Frame::Stmt(other), Value::Block(block), stack),
+    }
+}
+
+/// What a frame that waits for a declaration does with it.
+pub fn stmt_meets_decl(alloc: Global, frame: StmtFrame, d: Decl, stack: Stack) -> Answer
+    ensures value { Comes result (rows.stmt_meets_decl (stmt_frame frame) (decl_view d) (stack_view stack)) }
+{
+    match frame {
+        StmtFrame::Decl => after_decl(alloc, d, stack),
+        other => stuck_with(Frame::Stmt(other), Value::Decl(d), stack),
+    }
+}
+
+fn after_decl(alloc: Global, d: Decl, stack: Stack) -> Answer
+    ensures value { Comes result (rows.stmt_meets_decl f.Declared (decl_view d) (stack_view stack)) }
+{
+    match decl_stmt(alloc, d) {
+        Ok(s) => over(stack, Value::Stmt(s)),
+        Err(error) => lost(error, stack),
+    }
+}
