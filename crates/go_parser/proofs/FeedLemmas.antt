@@ -1,5 +1,5 @@
 -- One token to the frames.
-use Rattle.std.proofs.Common.{◌≡◌, List, [], ◌∷◌, length, refl, sym, ◌∙◌, ap, subst}
+use Rattle.std.proofs.Common.{◌≡◌, ◌<◌, List, [], ◌∷◌, length, arith, refl, sym, ◌∙◌, ap, subst}
 use Rattle.go_syntax.specs.Token.{Token}
 use Rattle.go_grammar.specs.Frames.{Frame, Stack, Flow, Goes, Over, Value}
 use Rattle.go_parser.specs.Kept.{below_is}
@@ -27,4 +27,7 @@ pub hands_over : HandsOver
 hands_over u x v s v' r q = ap (λ z. hands u z v') (meets_below u x v s v' r q) ∙ hands_with u x v s (Over v' r) q
 
 pub fewer_left : FewerLeft
-fewer_left u x v s v' r q = ap length (meets_below u x v s v' r q)
+fewer_left u x v s v' r t top q =
+    let same : length r ≡ length s = ap length (meets_below u x v s v' r q) in
+    let all : length t ≡ length (x ∷ s) = ap length top in
+    omega (arith, same, all)

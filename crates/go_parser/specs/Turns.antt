@@ -11,8 +11,9 @@ FeedOver = (u : Token) (x : Frame) (s : Stack) (v : Value) (r : Stack) → Over 
 abbrev pub HandsOver : Type 0
 HandsOver = (u : Token) (x : Frame) (v : Value) (s : Stack) (v' : Value) (r : Stack) → Over v' r ≡ meets u x v s → hands u r v' ≡ hands u (x ∷ s) v
 
+-- and fewer frames are left
 abbrev pub FewerLeft : Type 0
-FewerLeft = (u : Token) (x : Frame) (v : Value) (s : Stack) (v' : Value) (r : Stack) → Over v' r ≡ meets u x v s → length r ≡ length s
+FewerLeft = (u : Token) (x : Frame) (v : Value) (s : Stack) (v' : Value) (r t : Stack) → t ≡ x ∷ s → Over v' r ≡ meets u x v s → length r < length t
 
 -- the token at an index, and those after it
 abbrev pub RunTurn : Type 0

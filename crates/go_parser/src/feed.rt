@@ -191,7 +191,7 @@ pub fn feed(alloc: Global, at: At, text: &[u8], stack: Stack) -> Answer
 }
 
 /// Hands a tree that is done to the frames, until one of them takes the token.
-#[tactic(auto, using(crate::proofs::FeedLemmas::hands_over, crate::proofs::FeedLemmas::fewer_left))]
+#[tactic(auto, using(crate::proofs::FeedLemmas::hands_over))]
 fn hand(alloc: Global, at: At, text: &[u8], value: Value, stack: Stack) -> Answer
     ensures value { Comes result (all.hands (token_of at text.now) (stack_view stack) (value_view value)) }
 {
