@@ -1,0 +1,12 @@
+pub mod Packages
+pub mod GoFiles
+pub mod Root
+pub mod Readings
+pub mod Faults
+pub mod Load
+pub mod Names
+pub mod Gather
+pub mod ReadingView
+pub mod Numbered
+pub mod Least
+pub mod Judged

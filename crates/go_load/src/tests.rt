@@ -1,0 +1,480 @@
+//! Rows: files in memory, and what comes of them. A row has the code, the file's number and the
+//! offset, each worked out by hand from docs/FAULTS.md.
+
+use crate::loading::load;
+use crate::packages::{LoadRefusal, Packages};
+use gj_base::{NoMemory, Text, TreeFiles};
+use std::alloc::Global;
+use std::process::Abort;
+use std::test::Fail;
+
+/// No fault.
+const FINE: u16 = 1000;
+
+/// A failed read, or no `.go` file.
+const UNREAD: u16 = 1001;
+
+struct Row {
+    name: &'static str,
+    files: &'static [(&'static str, &'static str)],
+    code: u16,
+    file: u32,
+    offset: u32,
+}
+
+const MAIN: &str = "package main\n\nfunc main() {\n}\n";
+
+const ROWS: [Row; 34] = [
+    Row {
+        name: "one-file",
+        files: &[("app/main.go", MAIN)],
+        code: FINE,
+        file: 0,
+        offset: 0,
+    },
+    Row {
+        name: "main-in-the-second-file",
+        files: &[("app/a.go", "package main\n"), ("app/b.go", MAIN)],
+        code: FINE,
+        file: 0,
+        offset: 0,
+    },
+    Row {
+        name: "no-folder",
+        files: &[("other/main.go", MAIN)],
+        code: UNREAD,
+        file: 0,
+        offset: 0,
+    },
+    Row {
+        name: "no-go-file",
+        files: &[("app/main_test.go", MAIN), ("app/main.txt", MAIN)],
+        code: UNREAD,
+        file: 0,
+        offset: 0,
+    },
+    Row {
+        name: "test-files-are-left-out",
+        files: &[("app/main.go", MAIN), ("app/a_test.go", "#")],
+        code: FINE,
+        file: 0,
+        offset: 0,
+    },
+    Row {
+        name: "files-below-are-left-out",
+        files: &[("app/main.go", MAIN), ("app/low/a.go", "#")],
+        code: FINE,
+        file: 0,
+        offset: 0,
+    },
+    Row {
+        name: "bare-package-clause",
+        files: &[("app/main.go", "package main\n")],
+        code: 43,
+        file: 0,
+        offset: 0,
+    },
+    Row {
+        name: "a-method-is-no-function-main",
+        files: &[("app/main.go", "package main\nfunc (t T) main() {\n}\n")],
+        code: 43,
+        file: 0,
+        offset: 0,
+    },
+    Row {
+        name: "another-function",
+        files: &[("app/main.go", "package main\nfunc main2() {\n}\n")],
+        code: 43,
+        file: 0,
+        offset: 0,
+    },
+    Row {
+        name: "a-variable-main",
+        files: &[("app/main.go", "package main\nvar main int\n")],
+        code: 43,
+        file: 0,
+        offset: 0,
+    },
+    Row {
+        name: "no-main-in-two-files",
+        files: &[
+            ("app/a.go", "// a\npackage main\n"),
+            ("app/b.go", "package main\n"),
+        ],
+        code: 43,
+        file: 0,
+        offset: 0,
+    },
+    Row {
+        name: "another-package",
+        files: &[("app/main.go", "// a\npackage lib\nfunc main() {\n}\n")],
+        code: 44,
+        file: 0,
+        offset: 5,
+    },
+    Row {
+        name: "package-blank",
+        files: &[("app/main.go", "package _\nfunc main() {\n}\n")],
+        code: 44,
+        file: 0,
+        offset: 0,
+    },
+    Row {
+        name: "main-alone-in-its-name",
+        files: &[("app/main.go", "package mainly\nfunc main() {\n}\n")],
+        code: 44,
+        file: 0,
+        offset: 0,
+    },
+    Row {
+        name: "no-main-before-another-package",
+        files: &[("app/main.go", "package lib\n")],
+        code: 43,
+        file: 0,
+        offset: 0,
+    },
+    Row {
+        name: "package-names-differ",
+        files: &[("app/a.go", MAIN), ("app/b.go", "\npackage lib\n")],
+        code: 42,
+        file: 1,
+        offset: 1,
+    },
+    Row {
+        name: "compared-with-the-first-file",
+        files: &[
+            ("app/a.go", MAIN),
+            ("app/b.go", "package lib\n"),
+            ("app/c.go", "package lib\n"),
+        ],
+        code: 42,
+        file: 1,
+        offset: 0,
+    },
+    Row {
+        name: "the-first-file-is-told-first",
+        files: &[("app/a.go", "package lib\n"), ("app/b.go", MAIN)],
+        code: 44,
+        file: 0,
+        offset: 0,
+    },
+    Row {
+        name: "build-constraint",
+        files: &[(
+            "app/main.go",
+            "\n//go:build x\n\npackage main\nfunc main() {\n}\n",
+        )],
+        code: 47,
+        file: 0,
+        offset: 1,
+    },
+    Row {
+        name: "old-build-constraint",
+        files: &[(
+            "app/main.go",
+            "// +build x\n\npackage main\nfunc main() {\n}\n",
+        )],
+        code: 47,
+        file: 0,
+        offset: 0,
+    },
+    Row {
+        name: "no-constraint-after-the-package-clause",
+        files: &[(
+            "app/main.go",
+            "package main\n//go:build x\nfunc main() {\n}\n",
+        )],
+        code: FINE,
+        file: 0,
+        offset: 0,
+    },
+    Row {
+        name: "a-constraint-before-another-package",
+        files: &[(
+            "app/main.go",
+            "//go:build x\npackage lib\nfunc main() {\n}\n",
+        )],
+        code: 47,
+        file: 0,
+        offset: 0,
+    },
+    Row {
+        name: "import",
+        files: &[(
+            "app/main.go",
+            "package main\nimport \"fmt\"\nfunc main() {\n}\n",
+        )],
+        code: 0,
+        file: 0,
+        offset: 20,
+    },
+    Row {
+        name: "import-with-a-name",
+        files: &[(
+            "app/main.go",
+            "package main\nimport  f \"fmt\"\nfunc main() {\n}\n",
+        )],
+        code: 0,
+        file: 0,
+        offset: 21,
+    },
+    Row {
+        name: "imports-in-a-group",
+        files: &[(
+            "app/main.go",
+            "package main\nimport (\n\t. \"a\"\n\t\"b\"\n)\nfunc main() {\n}\n",
+        )],
+        code: 0,
+        file: 0,
+        offset: 23,
+    },
+    Row {
+        name: "an-empty-group",
+        files: &[("app/main.go", "package main\nimport ()\nfunc main() {\n}\n")],
+        code: FINE,
+        file: 0,
+        offset: 0,
+    },
+    Row {
+        name: "another-package-before-an-import",
+        files: &[(
+            "app/main.go",
+            "package lib\nimport \"a\"\nfunc main() {\n}\n",
+        )],
+        code: 44,
+        file: 0,
+        offset: 0,
+    },
+    Row {
+        name: "lexical-before-load",
+        files: &[
+            ("app/a.go", "package lib\n"),
+            ("app/b.go", "package main\n#"),
+        ],
+        code: 1,
+        file: 1,
+        offset: 13,
+    },
+    Row {
+        name: "lexical-before-syntax",
+        files: &[("app/a.go", "package\n"), ("app/b.go", "package main\n#")],
+        code: 1,
+        file: 1,
+        offset: 13,
+    },
+    Row {
+        name: "syntax-before-load",
+        files: &[
+            ("app/a.go", "package lib\n"),
+            ("app/b.go", "package main\nfunc\n"),
+        ],
+        code: 10,
+        file: 1,
+        offset: 18,
+    },
+    Row {
+        name: "the-first-lexical-fault",
+        files: &[("app/a.go", MAIN), ("app/b.go", "'\\q'"), ("app/c.go", "#")],
+        code: 7,
+        file: 1,
+        offset: 1,
+    },
+    Row {
+        name: "the-first-syntax-fault",
+        files: &[("app/b.go", "package main\nvar\n"), ("app/a.go", "x")],
+        code: 10,
+        file: 0,
+        offset: 0,
+    },
+    Row {
+        name: "an-empty-file",
+        files: &[("app/a.go", ""), ("app/b.go", MAIN)],
+        code: 10,
+        file: 0,
+        offset: 0,
+    },
+    Row {
+        name: "names-in-byte-order",
+        files: &[("app/b.go", "#"), ("app/B.go", " #"), ("app/b0.go", "  #")],
+        code: 1,
+        file: 0,
+        offset: 1,
+    },
+];
+
+/// A tree with these files.
+fn tree(alloc: Global, texts: &[(&str, &str)]) -> Result<TreeFiles, NoMemory> {
+    let mut files = TreeFiles::new(alloc);
+    for text in texts {
+        files.put(text.0, text.1.as_bytes())?;
+    }
+    Ok(files)
+}
+
+/// The code, the file's number and the offset.
+fn told(answer: &Result<Packages, LoadRefusal>) -> Result<(u16, u32, u32), NoMemory> {
+    match answer {
+        Ok(_) => Ok((FINE, 0, 0)),
+        Err(LoadRefusal::Fault(fault, _)) => {
+            Ok((fault.code, fault.place.file, fault.place.offset))
+        }
+        Err(LoadRefusal::ReadFault) => Ok((UNREAD, 0, 0)),
+        Err(LoadRefusal::NoMemory) => Err(NoMemory),
+    }
+}
+
+fn check(rt: &impl Abort, alloc: Global, row: &Row) -> Result<(), NoMemory> {
+    let mut files = tree(alloc, row.files)?;
+    let answer = load(alloc, &mut files, "app", "src");
+    let got = told(&answer)?;
+    assert_eq!(rt; got.0, row.code, "{}", row.name);
+    assert_eq!(rt; got.1, row.file, "{}", row.name);
+    assert_eq!(rt; got.2, row.offset, "{}", row.name);
+    Ok(())
+}
+
+#[test]
+fn answers_by_row(rt: HostRuntime) -> Result<(), Fail> {
+    for row in &ROWS {
+        check(&rt, rt.alloc(), row)?;
+    }
+    Ok(())
+}
+
+fn is_text(text: &Text, bytes: &str) -> bool {
+    text.as_bytes() == bytes.as_bytes()
+}
+
+#[test]
+fn packages_have_files_and_trees(rt: HostRuntime) -> Result<(), Fail> {
+    let second = "package main\nvar x int\nvar y int\n";
+    let mut files = tree(rt.alloc(), &[("app/main.go", MAIN), ("app/z.go", second)])?;
+    match load(rt.alloc(), &mut files, "app", "src") {
+        Ok(packages) => {
+            let entries = packages.files.as_slice();
+            assert_eq!(rt; entries.len(), 2);
+            assert!(rt; is_text(&entries[0].path, ""));
+            assert!(rt; is_text(&entries[0].name, "main.go"));
+            assert!(rt; is_text(&entries[0].bytes, MAIN));
+            assert!(rt; !entries[0].embedded);
+            assert!(rt; !entries[0].too_long);
+            assert!(rt; is_text(&entries[1].name, "z.go"));
+            assert!(rt; is_text(&entries[1].bytes, second));
+            assert!(rt; packages.packages.get(1).is_none());
+            let root = packages.packages.get(0).ok_or("root")?;
+            assert!(rt; is_text(&root.name, "main"));
+            assert_eq!(rt; root.files.len(), 2);
+            assert_eq!(rt; root.files[0].decls.len(), 1);
+            assert_eq!(rt; root.files[1].decls.len(), 2);
+        }
+        Err(_) => assert!(rt; false, "no packages"),
+    }
+    Ok(())
+}
+
+/// A fault brings the entries of all files that were read.
+#[test]
+fn a_fault_has_the_files(rt: HostRuntime) -> Result<(), Fail> {
+    let mut files = tree(rt.alloc(), &[("app/b.go", "#"), ("app/a.go", MAIN)])?;
+    match load(rt.alloc(), &mut files, "app", "src") {
+        Err(LoadRefusal::Fault(fault, sources)) => {
+            assert_eq!(rt; fault.code, 1);
+            assert_eq!(rt; sources.len(), 2);
+            let entries = sources.as_slice();
+            assert_eq!(rt; entries.len(), 2);
+            assert!(rt; is_text(&entries[1].name, "b.go"));
+            assert!(rt; is_text(&entries[1].bytes, "#"));
+        }
+        _ => assert!(rt; false, "no fault"),
+    }
+    Ok(())
+}
+
+/// A failed list or read is told before any fault.
+#[test]
+fn a_failed_call_ends_the_load(rt: HostRuntime) -> Result<(), Fail> {
+    for call in 0..4u64 {
+        let mut files = tree(
+            rt.alloc(),
+            &[("app/a.go", "#"), ("app/b.go", "#"), ("app/c.go", "#")],
+        )?;
+        files.fail(call, 0)?;
+        let answer = load(rt.alloc(), &mut files, "app", "src");
+        assert_eq!(rt; told(&answer)?.0, UNREAD, "call {call}");
+    }
+    let mut files = tree(rt.alloc(), &[("app/a.go", "#")])?;
+    files.fail(2, 0)?;
+    let answer = load(rt.alloc(), &mut files, "app", "src");
+    assert_eq!(rt; told(&answer)?.0, 1, "no call 2");
+    Ok(())
+}
+
+/// So many bytes, at most 4194305, each a `#`.
+fn hashes(alloc: Global, size: usize) -> Result<Vec<u8>, NoMemory> {
+    let mut bytes = Vec::new(alloc);
+    let block = [b'#'; 4096];
+    for _ in 0..1025u32 {
+        bytes.extend_from_slice(block.as_slice())?;
+    }
+    bytes.truncate(size);
+    Ok(bytes)
+}
+
+#[test]
+fn files_up_to_the_limit(rt: HostRuntime) -> Result<(), Fail> {
+    let bytes = hashes(rt.alloc(), 4194305)?;
+    assert_eq!(rt; bytes.len(), 4194305);
+    let mut files = TreeFiles::new(rt.alloc());
+    files.put("app/a.go", &bytes.as_slice()[..4194304])?;
+    let answer = load(rt.alloc(), &mut files, "app", "src");
+    assert_eq!(rt; told(&answer)?, (1, 0, 0), "4194304 bytes");
+    files.put("app/a.go", MAIN.as_bytes())?;
+    files.put("app/b.go", bytes.as_slice())?;
+    match load(rt.alloc(), &mut files, "app", "src") {
+        Err(LoadRefusal::Fault(fault, sources)) => {
+            assert_eq!(rt; fault.code, 45);
+            assert_eq!(rt; fault.place.file, 1);
+            assert_eq!(rt; fault.place.offset, 0);
+            let entries = sources.as_slice();
+            assert_eq!(rt; entries.len(), 2);
+            assert!(rt; entries[1].too_long);
+            assert!(rt; is_text(&entries[1].bytes, ""));
+        }
+        _ => assert!(rt; false, "no fault"),
+    }
+    let mut files = TreeFiles::new(rt.alloc());
+    files.put("app/a.go", bytes.as_slice())?;
+    files.put("app/b.go", b"package main\n")?;
+    let answer = load(rt.alloc(), &mut files, "app", "src");
+    assert_eq!(rt; told(&answer)?, (45, 0, 0), "a long file may have `main`");
+    Ok(())
+}
+
+#[test]
+fn programs_up_to_the_limit(rt: HostRuntime) -> Result<(), Fail> {
+    let bytes = hashes(rt.alloc(), 4194305)?;
+    assert_eq!(rt; bytes.len(), 4194305);
+    let most = &bytes.as_slice()[..4194304];
+    let mut files = TreeFiles::new(rt.alloc());
+    files.put("app/a.go", most)?;
+    files.put("app/b.go", most)?;
+    files.put("app/c.go", most)?;
+    files.put("app/d.go", most)?;
+    files.put("app/e.go", bytes.as_slice())?;
+    let answer = load(rt.alloc(), &mut files, "app", "src");
+    assert_eq!(rt; told(&answer)?, (1, 0, 0), "16777216 bytes");
+    files.put("app/f.go", b"#")?;
+    files.put("app/g.go", b"#")?;
+    // Call 13 would read g.go.
+    files.fail(13, 0)?;
+    match load(rt.alloc(), &mut files, "app", "src") {
+        Err(LoadRefusal::Fault(fault, sources)) => {
+            assert_eq!(rt; fault.code, 46);
+            assert_eq!(rt; fault.place.file, 0);
+            assert_eq!(rt; fault.place.offset, 0);
+            assert_eq!(rt; sources.len(), 6);
+        }
+        _ => assert!(rt; false, "no fault"),
+    }
+    Ok(())
+}
