@@ -1,0 +1,6 @@
+//! The script reader's expressions.
+#![tactic(auto)]
+
+mod descent;
+
+pub use descent::{enclosed, expr, post};
