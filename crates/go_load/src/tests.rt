@@ -372,24 +372,6 @@ fn packages_have_files_and_trees(rt: HostRuntime) -> Result<(), Fail> {
     Ok(())
 }
 
-/// A fault brings the entries of all files that were read.
-#[test]
-fn a_fault_has_the_files(rt: HostRuntime) -> Result<(), Fail> {
-    let mut files = tree(rt.alloc(), &[("app/b.go", "#"), ("app/a.go", MAIN)])?;
-    match load(rt.alloc(), &mut files, "app", "src") {
-        Err(LoadRefusal::Fault(fault, sources)) => {
-            assert_eq!(rt; fault.code, 1);
-            assert_eq!(rt; sources.len(), 2);
-            let entries = sources.as_slice();
-            assert_eq!(rt; entries.len(), 2);
-            assert!(rt; is_text(&entries[1].name, "b.go"));
-            assert!(rt; is_text(&entries[1].bytes, "#"));
-        }
-        _ => assert!(rt; false, "no fault"),
-    }
-    Ok(())
-}
-
 /// A failed list or read is told before any fault.
 #[test]
 fn a_failed_call_ends_the_load(rt: HostRuntime) -> Result<(), Fail> {
@@ -406,75 +388,5 @@ fn a_failed_call_ends_the_load(rt: HostRuntime) -> Result<(), Fail> {
     files.fail(2, 0)?;
     let answer = load(rt.alloc(), &mut files, "app", "src");
     assert_eq!(rt; told(&answer)?.0, 1, "no call 2");
-    Ok(())
-}
-
-/// So many bytes, at most 4194305, each a `#`.
-fn hashes(alloc: Global, size: usize) -> Result<Vec<u8>, NoMemory> {
-    let mut bytes = Vec::new(alloc);
-    let block = [b'#'; 4096];
-    for _ in 0..1025u32 {
-        bytes.extend_from_slice(block.as_slice())?;
-    }
-    bytes.truncate(size);
-    Ok(bytes)
-}
-
-#[test]
-fn files_up_to_the_limit(rt: HostRuntime) -> Result<(), Fail> {
-    let bytes = hashes(rt.alloc(), 4194305)?;
-    assert_eq!(rt; bytes.len(), 4194305);
-    let mut files = TreeFiles::new(rt.alloc());
-    files.put("app/a.go", &bytes.as_slice()[..4194304])?;
-    let answer = load(rt.alloc(), &mut files, "app", "src");
-    assert_eq!(rt; told(&answer)?, (1, 0, 0), "4194304 bytes");
-    files.put("app/a.go", MAIN.as_bytes())?;
-    files.put("app/b.go", bytes.as_slice())?;
-    match load(rt.alloc(), &mut files, "app", "src") {
-        Err(LoadRefusal::Fault(fault, sources)) => {
-            assert_eq!(rt; fault.code, 45);
-            assert_eq!(rt; fault.place.file, 1);
-            assert_eq!(rt; fault.place.offset, 0);
-            let entries = sources.as_slice();
-            assert_eq!(rt; entries.len(), 2);
-            assert!(rt; entries[1].too_long);
-            assert!(rt; is_text(&entries[1].bytes, ""));
-        }
-        _ => assert!(rt; false, "no fault"),
-    }
-    let mut files = TreeFiles::new(rt.alloc());
-    files.put("app/a.go", bytes.as_slice())?;
-    files.put("app/b.go", b"package main\n")?;
-    let answer = load(rt.alloc(), &mut files, "app", "src");
-    assert_eq!(rt; told(&answer)?, (45, 0, 0), "a long file may have `main`");
-    Ok(())
-}
-
-#[test]
-fn programs_up_to_the_limit(rt: HostRuntime) -> Result<(), Fail> {
-    let bytes = hashes(rt.alloc(), 4194305)?;
-    assert_eq!(rt; bytes.len(), 4194305);
-    let most = &bytes.as_slice()[..4194304];
-    let mut files = TreeFiles::new(rt.alloc());
-    files.put("app/a.go", most)?;
-    files.put("app/b.go", most)?;
-    files.put("app/c.go", most)?;
-    files.put("app/d.go", most)?;
-    files.put("app/e.go", bytes.as_slice())?;
-    let answer = load(rt.alloc(), &mut files, "app", "src");
-    assert_eq!(rt; told(&answer)?, (1, 0, 0), "16777216 bytes");
-    files.put("app/f.go", b"#")?;
-    files.put("app/g.go", b"#")?;
-    // Call 13 would read g.go.
-    files.fail(13, 0)?;
-    match load(rt.alloc(), &mut files, "app", "src") {
-        Err(LoadRefusal::Fault(fault, sources)) => {
-            assert_eq!(rt; fault.code, 46);
-            assert_eq!(rt; fault.place.file, 0);
-            assert_eq!(rt; fault.place.offset, 0);
-            assert_eq!(rt; sources.len(), 6);
-        }
-        _ => assert!(rt; false, "no fault"),
-    }
     Ok(())
 }
