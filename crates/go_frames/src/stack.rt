@@ -65,11 +65,6 @@ impl Stack {
             Some(frame) => Some((frame, Stack { frames })),
         }
     }
-
-    /// How many frames there are.
-    pub fn len(&self) -> usize {
-        self.frames.len()
-    }
 }
 
 /// Takes the token and puts a frame on top.
