@@ -1,5 +1,5 @@
 -- Short words for the rows: bodies of functions with their places, and what is told of them.
-use Rattle.std.specs.Prelude.{ℕ, List, [], ◌∷◌, false, None}
+use Rattle.std.specs.Prelude.{ℕ, List, [], ◌∷◌, false, Some, None}
 use Rattle.go_syntax.specs.Tree as t
 use Rattle.go_syntax.specs.declared.tree.Name.{Name}
 use Rattle.go_type.specs.Tree.{Tys, no_tys}
@@ -34,7 +34,7 @@ abbrev pub start : Walk
 start = record { names = names; scopes = universe None ∷ declared ∷ [] ∷ []; next = 20; next_label = 0; vars = []; declared = []; used = [] }
 
 abbrev pub around : Tys → Around
-around rs = record { results = rs; named_results = false; targets = []; label = None }
+around rs = record { results = Some rs; named_results = false; targets = []; label = None }
 
 -- in a function with these results
 abbrev pub told_in : Tys → t.Block → List Flaw

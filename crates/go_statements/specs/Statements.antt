@@ -260,9 +260,17 @@ returned_by at w rs ys None =
     else wrong_count at w ys
 returned_by at w rs ys (Some us) = returned_call at w rs (first_right ys (t.NameExpr at [])) us
 
+abbrev pub returned_to : Place → Tys → (named : Bool) → t.Exprs → Walk → Did
+returned_to at rs named t.NoExprs w = if is_empty rs || named then did (core.return_ core.no_exprs ∷ []) w else faulty (flaw at 88 ∷ []) w
+returned_to at rs named (t.MoreExprs y ys) w = returned_by at w rs (t.MoreExprs y ys) (several_right w (t.MoreExprs y ys))
+
+-- where the results aren't typed, the values alone are told of
+abbrev pub returned_in : Place → Option Tys → (named : Bool) → t.Exprs → Walk → Did
+returned_in at None named ys w = faulty (all_in_flaws w ys) (uses_all ys w)
+returned_in at (Some rs) named ys w = returned_to at rs named ys w
+
 abbrev pub returned : Place → Around → t.Exprs → Walk → Did
-returned at a t.NoExprs w = if is_empty a.results || a.named_results then did (core.return_ core.no_exprs ∷ []) w else faulty (flaw at 88 ∷ []) w
-returned at a (t.MoreExprs y ys) w = returned_by at w a.results (t.MoreExprs y ys) (several_right w (t.MoreExprs y ys))
+returned at a ys w = returned_in at a.results a.named_results ys w
 
 -- ---- branches (89)
 
@@ -343,9 +351,10 @@ abbrev mutual
 
 -- what is told of a body: its statements, its labels, its unused variables (80), and where it has results and control comes to its
 -- end, its closing brace (87)
-abbrev pub missing_return : Tys → Place → List core.Stmt → List Flaw
-missing_return no_tys end ss = []
-missing_return (more_tys u us) end ss = if ends_terminating (body ss) then [] else flaw end 87 ∷ []
+abbrev pub missing_return : Option Tys → Place → List core.Stmt → List Flaw
+missing_return None end ss = []
+missing_return (Some no_tys) end ss = []
+missing_return (Some (more_tys u us)) end ss = if ends_terminating (body ss) then [] else flaw end 87 ∷ []
 
 abbrev pub where_clean : List Flaw → List Flaw → List Flaw
 where_clean [] fs = fs

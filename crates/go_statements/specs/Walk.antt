@@ -30,9 +30,10 @@ pub record Target : Type 0 where
   pub name : Option (List ℕ)
   pub is_loop : Bool
 
--- what is around a statement: the function's results, whether they have names, and what may be left, the innermost first
+-- what is around a statement: the function's results if they are typed, whether they have names, and what may be left,
+-- the innermost first
 pub record Around : Type 0 where
-  pub results : Tys
+  pub results : Option Tys
   pub named_results : Bool
   pub targets : List Target
   -- the label before the statement

@@ -1,0 +1,10 @@
+pub mod Signature
+pub mod Items
+pub mod Known
+pub mod Cycles
+pub mod Told
+pub mod Functions
+pub mod Checked
+pub mod RowWords
+pub mod RowsTold
+pub mod RowsCore
