@@ -50,6 +50,15 @@ pub struct Packages {
     pub packages: Paths,
 }
 
+impl Packages {
+    /// The files alone: the trees are let go.
+    pub fn into_files(self) -> Sources
+        ensures { result ≡ self.files }
+    {
+        self.files
+    }
+}
+
 /// Why a load gave no packages.
 #[derive(Debug, Drop)]
 pub enum LoadRefusal {
