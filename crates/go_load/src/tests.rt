@@ -3,6 +3,7 @@
 
 use crate::loading::load;
 use crate::packages::{LoadRefusal, Packages};
+use crate::sources::FileEntry;
 use gj_base::{NoMemory, Text, TreeFiles};
 use std::alloc::Global;
 use std::process::Abort;
@@ -372,6 +373,31 @@ fn packages_have_files_and_trees(rt: HostRuntime) -> Result<(), Fail> {
     Ok(())
 }
 
+/// The files that were read, where the answer has them.
+fn entries_of(answer: &Result<Packages, LoadRefusal>) -> &[FileEntry] {
+    match answer {
+        Ok(packages) => packages.files.as_slice(),
+        Err(LoadRefusal::Fault(_, sources)) => sources.as_slice(),
+        Err(LoadRefusal::ReadFault) => &[],
+        Err(LoadRefusal::NoMemory) => &[],
+    }
+}
+
+/// A fault brings the entries of all files that were read.
+#[test]
+fn a_fault_has_the_files(rt: HostRuntime) -> Result<(), Fail> {
+    let mut files = tree(rt.alloc(), &[("app/b.go", "#"), ("app/a.go", MAIN)])?;
+    let answer = load(rt.alloc(), &mut files, "app", "src");
+    assert_eq!(rt; told(&answer)?.0, 1);
+    let entries = entries_of(&answer);
+    assert_eq!(rt; entries.len(), 2);
+    assert!(rt; is_text(&entries[0].name, "a.go"));
+    assert!(rt; is_text(&entries[0].bytes, MAIN));
+    assert!(rt; is_text(&entries[1].name, "b.go"));
+    assert!(rt; is_text(&entries[1].bytes, "#"));
+    Ok(())
+}
+
 /// A failed list or read is told before any fault.
 #[test]
 fn a_failed_call_ends_the_load(rt: HostRuntime) -> Result<(), Fail> {
@@ -388,5 +414,97 @@ fn a_failed_call_ends_the_load(rt: HostRuntime) -> Result<(), Fail> {
     files.fail(2, 0)?;
     let answer = load(rt.alloc(), &mut files, "app", "src");
     assert_eq!(rt; told(&answer)?.0, 1, "no call 2");
+    Ok(())
+}
+
+/// So many bytes, at most 4194305, each a `#`.
+fn hashes(alloc: Global, size: usize) -> Result<Vec<u8>, NoMemory> {
+    let mut bytes = Vec::new(alloc);
+    let block = [b'#'; 4096];
+    for _ in 0..1025u32 {
+        bytes.extend_from_slice(block.as_slice())?;
+    }
+    bytes.truncate(size);
+    Ok(bytes)
+}
+
+/// A file of 4194304 bytes is read whole.
+#[test]
+fn a_file_at_the_limit(rt: HostRuntime) -> Result<(), Fail> {
+    let bytes = hashes(rt.alloc(), 4194304)?;
+    assert_eq!(rt; bytes.len(), 4194304);
+    let mut files = TreeFiles::new(rt.alloc());
+    files.put("app/a.go", bytes.as_slice())?;
+    let answer = load(rt.alloc(), &mut files, "app", "src");
+    let got = told(&answer)?;
+    assert_eq!(rt; got.0, 1);
+    assert_eq!(rt; got.1, 0);
+    assert_eq!(rt; got.2, 0);
+    let entries = entries_of(&answer);
+    assert_eq!(rt; entries.len(), 1);
+    assert!(rt; !entries[0].too_long);
+    Ok(())
+}
+
+/// A file of one byte more is too long, and nothing of it is kept.
+#[test]
+fn a_file_past_the_limit(rt: HostRuntime) -> Result<(), Fail> {
+    let bytes = hashes(rt.alloc(), 4194305)?;
+    assert_eq!(rt; bytes.len(), 4194305);
+    let mut files = tree(rt.alloc(), &[("app/a.go", MAIN)])?;
+    files.put("app/b.go", bytes.as_slice())?;
+    let answer = load(rt.alloc(), &mut files, "app", "src");
+    let got = told(&answer)?;
+    assert_eq!(rt; got.0, 45);
+    assert_eq!(rt; got.1, 1);
+    assert_eq!(rt; got.2, 0);
+    let entries = entries_of(&answer);
+    assert_eq!(rt; entries.len(), 2);
+    assert!(rt; !entries[0].too_long);
+    assert!(rt; entries[1].too_long);
+    assert!(rt; is_text(&entries[1].bytes, ""));
+    Ok(())
+}
+
+/// A file past the limit may declare `main`.
+#[test]
+fn a_long_file_may_have_main(rt: HostRuntime) -> Result<(), Fail> {
+    let bytes = hashes(rt.alloc(), 4194305)?;
+    assert_eq!(rt; bytes.len(), 4194305);
+    let mut files = tree(rt.alloc(), &[("app/b.go", "package main\n")])?;
+    files.put("app/a.go", bytes.as_slice())?;
+    let answer = load(rt.alloc(), &mut files, "app", "src");
+    let got = told(&answer)?;
+    assert_eq!(rt; got.0, 45);
+    assert_eq!(rt; got.1, 0);
+    assert_eq!(rt; got.2, 0);
+    Ok(())
+}
+
+/// Four files of 4194304 bytes are a program at its limit; a file past its own limit adds nothing.
+/// One byte more is too many, and nothing is read after it.
+#[test]
+fn programs_up_to_the_limit(rt: HostRuntime) -> Result<(), Fail> {
+    let bytes = hashes(rt.alloc(), 4194305)?;
+    assert_eq!(rt; bytes.len(), 4194305);
+    let most = &bytes.as_slice()[..4194304];
+    let mut files = TreeFiles::new(rt.alloc());
+    files.put("app/a.go", most)?;
+    files.put("app/b.go", most)?;
+    files.put("app/c.go", most)?;
+    files.put("app/d.go", most)?;
+    files.put("app/e.go", bytes.as_slice())?;
+    let answer = load(rt.alloc(), &mut files, "app", "src");
+    assert_eq!(rt; told(&answer)?.0, 1, "16777216 bytes");
+    files.put("app/f.go", b"#")?;
+    files.put("app/g.go", b"#")?;
+    // Calls 0 to 5 were of the load before, calls 6 to 12 list and read up to f.go; call 13 would read g.go.
+    files.fail(13, 0)?;
+    let answer = load(rt.alloc(), &mut files, "app", "src");
+    let got = told(&answer)?;
+    assert_eq!(rt; got.0, 46);
+    assert_eq!(rt; got.1, 0);
+    assert_eq!(rt; got.2, 0);
+    assert_eq!(rt; entries_of(&answer).len(), 6);
     Ok(())
 }
