@@ -87,3 +87,12 @@ for size in 1000000 2000000 4000000; do
         python3 "$here/measure.py" "$work/go.go" $command
     done
 done
+
+for kind in arguments calls constants declarations elements parentheses statements; do
+    python3 "$here/dense.py" "$work/go.go" "$kind"
+    for command in "$work/crates/parse_time/out/parse_time tokens" "$work/crates/parse_time/out/parse_time"; do
+        echo "$kind:"
+        # shellcheck disable=SC2086
+        python3 "$here/measure.py" "$work/go.go" $command
+    done
+done

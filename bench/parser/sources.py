@@ -1,6 +1,6 @@
 """Writes one Go file: what is declared at the top of sources of Go's library, up to so many bytes.
 
-Left out are sources with floats, imaginary numbers, type parameters or functions without a body, and each file's package clause and imports.
+Left out are sources with floats, imaginary numbers, type parameters, `goto` or functions without a body, and each file's package clause and imports.
 """
 import glob
 import re
@@ -8,6 +8,7 @@ import sys
 
 FLOAT = re.compile(rb"(?<![\w.])(\d[\d_]*\.\d|\d+e[+-]?\d|\.\d|0x[0-9a-fA-F]*[.pP])|\b\d+i\b")
 GENERIC = re.compile(rb"^(func|type)\s+(\([^)]*\)\s*)?\w+\[\w+[ ,]|\batomic\.Pointer\[", re.M)
+GOTO = re.compile(rb"\bgoto\b")
 BODILESS = re.compile(rb"^func .*[^{}(,\s]\s*$", re.M)
 HEAD = re.compile(rb"\A(?://.*\n|\s|/\*(?s:.*?)\*/)*package \w+.*")
 IMPORT = re.compile(rb'^import\s*(\([^)]*\)|(\w+ |\. )?"[^"]*").*?$', re.M | re.S)
@@ -20,7 +21,7 @@ def sources():
                 continue
             with open(path, "rb") as file:
                 text = file.read()
-            if b"~" in text or FLOAT.search(text) or GENERIC.search(text) or BODILESS.search(text):
+            if b"~" in text or FLOAT.search(text) or GENERIC.search(text) or GOTO.search(text) or BODILESS.search(text):
                 continue
             if HEAD.search(text):
                 yield IMPORT.sub(b"", HEAD.sub(b"", text, count=1))
