@@ -8,3 +8,6 @@ pub mod output;
 pub mod run_panic;
 pub mod scalar;
 pub mod text;
+
+#[cfg(test)]
+mod tests;
