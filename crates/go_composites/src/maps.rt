@@ -1,0 +1,434 @@
+//! Maps: finite maps whose entries have a birth.
+//!
+//! The Go Programming Language Specification (as of Go 1.17), "Map types", "Index expressions",
+//! "Deletion of map elements", "Composite literals".
+
+ghost use Rattle.std.specs.Prelude.{◌≡◌, ◌+◌, ◌*◌, [], ◌∷◌, ◌++◌, List, IfOk, OnOk, map, option_map, length, slice_get, drop};
+ghost use Rattle.go_type.specs.Tree.{Ty, mapping};
+ghost use Rattle.go_type.specs.Levels.{tree_of};
+ghost use Rattle.go_type.specs.Table.{places, names};
+ghost use Rattle.go_core.specs.Layout.{shape_of, weight};
+ghost use Rattle.go_core.specs.Memory as core;
+ghost use Rattle.go_core.specs.StepMaps as defined;
+ghost use Rattle.go_values.specs.Seen.{scalar_of, value_of, values_of, entry_of, map_of, memory_of};
+ghost use Rattle.go_operators.specs.Seen.{Does};
+
+use gj_base::NoMemory;
+use go_layouts::equality::same_key;
+use go_operators::did::{Change, Context, Gives, Stop, Values, alone};
+use go_operators::numbers::MOST_ELEMENTS;
+use go_operators::places::{product, sum, weight_of, zeros_of};
+use go_type::types::{GoType, TypeId};
+use go_values::level::level_at;
+use go_values::memory::{Entry, MapState, Memory};
+use go_values::run_panic::RunPanic;
+use go_values::scalar::Scalar;
+
+/// The place of a key's entry, and none where it has none.
+fn place_of<'a>(
+    c: &Context<'a>,
+    key_type: TypeId,
+    key: &[Scalar<'a>],
+    entries: &[Entry<'a>],
+) -> Result<Option<usize>, NoMemory>
+    ensures some { IfOk result (λ k. IfSome k (λ i. IsFirst (names c.now.table.now) (tree_of (places c.now.table.now) key_type) (value_of (places c.now.table.now) key.now) (map (entry_of (places c.now.table.now)) entries.now) i)) }
+    ensures none { IfOk result (λ k. IfNone k (defined.looked_up (names c.now.table.now) (tree_of (places c.now.table.now) key_type) (value_of (places c.now.table.now) key.now) (map (entry_of (places c.now.table.now)) entries.now) ≡ None)) }
+{
+    'entries: for i in 0..entries.len() {
+        let is_it = same_key(c.alloc, c.table, key_type, entries[i].key, key)?;
+        if is_it {
+            return Ok(Some(i));
+        }
+    }
+    Ok(None)
+}
+
+/// The value at a key.
+pub fn looked_up<'a>(
+    c: &Context<'a>,
+    key_type: TypeId,
+    key: &[Scalar<'a>],
+    entries: &[Entry<'a>],
+) -> Result<Option<&'a [Scalar<'a>]>, NoMemory>
+    ensures value { IfOk result (λ v. let ts = places c.now.table.now in option_map (λ x. value_of ts x.now) v ≡ defined.looked_up (names c.now.table.now) (tree_of ts key_type) (value_of ts key.now) (map (entry_of ts) entries.now)) }
+{
+    match place_of(c, key_type, key, entries)? {
+        Some(i) => Ok(Some(entries[i].value)),
+        None => Ok(None),
+    }
+}
+
+// A copy of a map's entries.
+fn copied<'a>(c: &Context<'a>, entries: &[Entry<'a>]) -> Result<MapState<'a>, NoMemory>
+    ensures value { IfOk result (λ s. s.entries.items ≡ entries.now) }
+{
+    let mut copy = Vec::new(c.alloc);
+    copy.extend_from_slice(entries)?;
+    Ok(MapState {
+        entries: copy,
+        next_birth: 0,
+    })
+}
+
+// With this entry: the key's own where it has one, and else a new one with the next birth; none
+// where that passes the limit.
+fn with_entry<'a>(
+    c: &Context<'a>,
+    key_type: TypeId,
+    key: &'a [Scalar<'a>],
+    value: &'a [Scalar<'a>],
+    state: &mut MapState<'a>,
+) -> Result<bool, NoMemory>
+    ensures value { let ts = places c.now.table.now in Entered result (map_of ts state.new) (defined.with_entry (names c.now.table.now) (tree_of ts key_type) (value_of ts key.now) (value_of ts value.now) (map_of ts state.old)) }
+{
+    match place_of(c, key_type, key, state.entries.as_slice())? {
+        Some(i) => {
+            state.entries[i].value = value;
+            Ok(true)
+        }
+        None => {
+            if state.entries.len() as u64 >= MOST_ELEMENTS {
+                return Ok(false);
+            }
+            with_new(key, value, state)?;
+            Ok(true)
+        }
+    }
+}
+
+fn with_new<'a>(
+    key: &'a [Scalar<'a>],
+    value: &'a [Scalar<'a>],
+    state: &mut MapState<'a>,
+) -> Result<(), NoMemory>
+    ensures value { OnOk result ((ts : List Ty) → map_of ts state.new ≡ defined.with_new (value_of ts key.now) (value_of ts value.now) (map_of ts state.old)) }
+{
+    let birth = state.next_birth;
+    let next = sum(birth, 1)?;
+    state.entries.push(Entry { key, value, birth })?;
+    state.next_birth = next;
+    Ok(())
+}
+
+// A value for a key, or zero, and whether it is there where that is asked.
+fn with_ok<'a>(
+    c: &Context<'a>,
+    ok: bool,
+    found: bool,
+    value: &'a [Scalar<'a>],
+) -> Result<Values<'a>, NoMemory>
+    ensures value { IfOk result (λ vs. (ts : List Ty) → seen.values_of ts vs ≡ defined.with_ok ok (value_of ts value.now) found) }
+{
+    if ok {
+        let truth = alone(c, Scalar::Truth(found))?;
+        Ok(Values::Two(value, truth))
+    } else {
+        Ok(Values::One(value))
+    }
+}
+
+fn entries_in<'m, 'a>(m: &'m Memory<'a>, x: Scalar<'a>) -> &'m [Entry<'a>]
+    ensures value { (ts : List Ty) → map (entry_of ts) result.now ≡ defined.entries_at (scalar_of ts x.entry ∷ []) (memory_of ts m.now) }
+{
+    match x {
+        Scalar::Map(name) => {
+            if name < m.maps.len() as u64 {
+                m.maps[name as usize].entries.as_slice()
+            } else {
+                &[]
+            }
+        }
+        _ => &[],
+    }
+}
+
+// The entries of a map; nil has none.
+fn entries_at<'m, 'a>(m: &'m Memory<'a>, x: &[Scalar<'a>]) -> &'m [Entry<'a>]
+    ensures value { (ts : List Ty) → map (entry_of ts) result.now ≡ defined.entries_at (value_of ts x.now) (memory_of ts m.now) }
+{
+    match x {
+        [x] => entries_in(m, *x),
+        _ => &[],
+    }
+}
+
+// What an entry takes of units.
+fn entry_weight(c: &Context, key: TypeId, value: TypeId) -> Result<u64, NoMemory>
+    ensures value { IfOk result (λ n. n ≡ weight (shape_of (names c.now.table.now) (tree_of (places c.now.table.now) key)) + weight (shape_of (names c.now.table.now) (tree_of (places c.now.table.now) value))) }
+{
+    let k = weight_of(c, key)?;
+    let v = weight_of(c, value)?;
+    sum(k, v)
+}
+
+// The value at a key of a map of these types, and zero where there is none.
+fn get_of<'a>(
+    c: &Context<'a>,
+    key_type: TypeId,
+    value_type: TypeId,
+    ok: bool,
+    key: &[Scalar<'a>],
+    entries: &[Entry<'a>],
+) -> Result<Gives<'a>, Stop>
+    ensures value { (m : core.Memory) (x : core.Value) → let ts = places c.now.table.now in map (entry_of ts) entries.now ≡ defined.entries_at x m → Does ts m result (defined.map_get_step (names c.now.table.now) (mapping (tree_of ts key_type) (tree_of ts value_type)) ok x (value_of ts key.now) m) }
+{
+    let units = entry_weight(c, key_type, value_type)?;
+    let found = looked_up(c, key_type, key, entries)?;
+    let values = match found {
+        Some(v) => with_ok(c, ok, true, v)?,
+        None => with_ok(c, ok, false, zeros_of(c, value_type)?)?,
+    };
+    Ok(Gives {
+        values,
+        change: Change::Same,
+        units,
+    })
+}
+
+/// The value at a key; `t` is the map's underlying type.
+pub fn map_get_step<'a>(
+    c: &Context<'a>,
+    t: TypeId,
+    ok: bool,
+    x: &[Scalar<'a>],
+    key: &[Scalar<'a>],
+    m: &Memory<'a>,
+) -> Result<Gives<'a>, Stop>
+    ensures value { let ts = places c.now.table.now in Does ts (memory_of ts m.now) result (defined.map_get_step (names c.now.table.now) (tree_of ts t) ok (value_of ts x.now) (value_of ts key.now) (memory_of ts m.now)) }
+{
+    match level_at(c.table, t) {
+        Some(GoType::Map(k, v)) => get_of(c, *k, *v, ok, key, entries_at(m, x)),
+        _ => Err(Stop::NoStep),
+    }
+}
+
+// A map's state in the arena.
+fn set_to<'a>(c: &Context<'a>, name: u64, state: &MapState<'a>) -> Result<Change<'a>, NoMemory>
+    ensures value { IfOk result (λ x. (ts : List Ty) (m : core.Memory) → seen.changed ts m x ≡ core.set_map m name (map_of ts state.now)) }
+{
+    let entries: &'a [Entry<'a>] = c.arena.try_alloc_slice_copy(state.entries.as_slice())?;
+    Ok(Change::SetsMap {
+        name,
+        entries,
+        next_birth: state.next_birth,
+    })
+}
+
+// The entry goes into the map of a name.
+fn set_in<'a>(
+    c: &Context<'a>,
+    key_type: TypeId,
+    value_type: TypeId,
+    key: &'a [Scalar<'a>],
+    value: &'a [Scalar<'a>],
+    name: u64,
+    m: &Memory<'a>,
+) -> Result<Gives<'a>, Stop>
+    ensures value { let ts = places c.now.table.now in Does ts (memory_of ts m.now) result (defined.map_set_step (names c.now.table.now) (mapping (tree_of ts key_type) (tree_of ts value_type)) (core.map name ∷ []) (value_of ts key.now) (value_of ts value.now) (memory_of ts m.now)) }
+{
+    if name >= m.maps.len() as u64 {
+        return Err(Stop::NoStep);
+    }
+    let old = &m.maps[name as usize];
+    let units = entry_weight(c, key_type, value_type)?;
+    let mut state = copied(c, old.entries.as_slice())?;
+    state.next_birth = old.next_birth;
+    let fits = with_entry(c, key_type, key, value, &mut state)?;
+    if !fits {
+        return Err(too_big());
+    }
+    let change = set_to(c, name, &state)?;
+    Ok(Gives {
+        values: Values::Nothing,
+        change,
+        units,
+    })
+}
+
+fn set_of<'a>(
+    c: &Context<'a>,
+    key_type: TypeId,
+    value_type: TypeId,
+    x: Scalar<'a>,
+    key: &'a [Scalar<'a>],
+    value: &'a [Scalar<'a>],
+    m: &Memory<'a>,
+) -> Result<Gives<'a>, Stop>
+    ensures value { let ts = places c.now.table.now in Does ts (memory_of ts m.now) result (defined.map_set_step (names c.now.table.now) (mapping (tree_of ts key_type) (tree_of ts value_type)) (scalar_of ts x.entry ∷ []) (value_of ts key.now) (value_of ts value.now) (memory_of ts m.now)) }
+{
+    match x {
+        Scalar::Map(name) => set_in(c, key_type, value_type, key, value, name, m),
+        Scalar::Nil => Err(Stop::Panics {
+            panic: RunPanic::NilMapEntry,
+            units: 0,
+        }),
+        _ => Err(Stop::NoStep),
+    }
+}
+
+/// A store in a map: in a nil one it panics; `t` is the map's underlying type.
+pub fn map_set_step<'a>(
+    c: &Context<'a>,
+    t: TypeId,
+    x: &[Scalar<'a>],
+    key: &'a [Scalar<'a>],
+    value: &'a [Scalar<'a>],
+    m: &Memory<'a>,
+) -> Result<Gives<'a>, Stop>
+    ensures value { let ts = places c.now.table.now in Does ts (memory_of ts m.now) result (defined.map_set_step (names c.now.table.now) (tree_of ts t) (value_of ts x.now) (value_of ts key.now) (value_of ts value.now) (memory_of ts m.now)) }
+{
+    match level_at(c.table, t) {
+        Some(GoType::Map(k, v)) => match x {
+            [x] => set_of(c, *k, *v, *x, key, value, m),
+            _ => Err(Stop::NoStep),
+        },
+        _ => Err(Stop::NoStep),
+    }
+}
+
+// The entries without that of a key.
+fn without<'a>(
+    c: &Context<'a>,
+    key_type: TypeId,
+    key: &[Scalar<'a>],
+    state: &mut MapState<'a>,
+) -> Result<(), NoMemory>
+    ensures value { OnOk result (let ts = places c.now.table.now in map_of ts state.new ≡ record (map_of ts state.old) { entries = defined.without (names c.now.table.now) (tree_of ts key_type) (value_of ts key.now) (map_of ts state.old).entries }) }
+{
+    match place_of(c, key_type, key, state.entries.as_slice())? {
+        Some(i) => {
+            let _entry = state.entries.remove(i);
+            Ok(())
+        }
+        None => Ok(()),
+    }
+}
+
+fn deleted_in<'a>(
+    c: &Context<'a>,
+    key_type: TypeId,
+    value_type: TypeId,
+    key: &[Scalar<'a>],
+    name: u64,
+    m: &Memory<'a>,
+) -> Result<Gives<'a>, Stop>
+    ensures value { let ts = places c.now.table.now in Does ts (memory_of ts m.now) result (defined.map_delete_step (names c.now.table.now) (mapping (tree_of ts key_type) (tree_of ts value_type)) (core.map name ∷ []) (value_of ts key.now) (memory_of ts m.now)) }
+{
+    if name >= m.maps.len() as u64 {
+        return Err(Stop::NoStep);
+    }
+    let old = &m.maps[name as usize];
+    let units = entry_weight(c, key_type, value_type)?;
+    let mut state = copied(c, old.entries.as_slice())?;
+    state.next_birth = old.next_birth;
+    without(c, key_type, key, &mut state)?;
+    let change = set_to(c, name, &state)?;
+    Ok(Gives {
+        values: Values::Nothing,
+        change,
+        units,
+    })
+}
+
+fn deleted_of<'a>(
+    c: &Context<'a>,
+    key_type: TypeId,
+    value_type: TypeId,
+    x: Scalar<'a>,
+    key: &[Scalar<'a>],
+    m: &Memory<'a>,
+) -> Result<Gives<'a>, Stop>
+    ensures value { let ts = places c.now.table.now in Does ts (memory_of ts m.now) result (defined.map_delete_step (names c.now.table.now) (mapping (tree_of ts key_type) (tree_of ts value_type)) (scalar_of ts x.entry ∷ []) (value_of ts key.now) (memory_of ts m.now)) }
+{
+    match x {
+        Scalar::Map(name) => deleted_in(c, key_type, value_type, key, name, m),
+        Scalar::Nil => Ok(Gives {
+            values: Values::Nothing,
+            change: Change::Same,
+            units: entry_weight(c, key_type, value_type)?,
+        }),
+        _ => Err(Stop::NoStep),
+    }
+}
+
+/// An entry is deleted: what is not there, and nil, is no fault; `t` is the map's underlying type.
+pub fn map_delete_step<'a>(
+    c: &Context<'a>,
+    t: TypeId,
+    x: &[Scalar<'a>],
+    key: &[Scalar<'a>],
+    m: &Memory<'a>,
+) -> Result<Gives<'a>, Stop>
+    ensures value { let ts = places c.now.table.now in Does ts (memory_of ts m.now) result (defined.map_delete_step (names c.now.table.now) (tree_of ts t) (value_of ts x.now) (value_of ts key.now) (memory_of ts m.now)) }
+{
+    match level_at(c.table, t) {
+        Some(GoType::Map(k, v)) => match x {
+            [x] => deleted_of(c, *k, *v, *x, key, m),
+            _ => Err(Stop::NoStep),
+        },
+        _ => Err(Stop::NoStep),
+    }
+}
+
+// Keys and values by turns are stored in order; false where one passes the limit.
+fn with_pairs<'a>(
+    c: &Context<'a>,
+    key_type: TypeId,
+    vs: &[&'a [Scalar<'a>]],
+    state: &mut MapState<'a>,
+) -> Result<bool, NoMemory>
+    ensures value { let ts = places c.now.table.now in Entered result (map_of ts state.new) (defined.with_pairs (names c.now.table.now) (tree_of ts key_type) (values_of ts vs.now) (map_of ts state.old)) }
+{
+    let mut rest = vs;
+    'pairs: while let [key, value, others @ ..] = rest {
+        let fits = with_entry(c, key_type, *key, *value, state)?;
+        if !fits {
+            return Ok(false);
+        }
+        rest = others;
+    }
+    Ok(true)
+}
+
+fn built_of<'a>(
+    c: &Context<'a>,
+    key_type: TypeId,
+    value_type: TypeId,
+    vs: &[&'a [Scalar<'a>]],
+    m: &Memory<'a>,
+) -> Result<Gives<'a>, Stop>
+    ensures value { let ts = places c.now.table.now in Does ts (memory_of ts m.now) result (defined.build_map_step (names c.now.table.now) (mapping (tree_of ts key_type) (tree_of ts value_type)) (values_of ts vs.now) (memory_of ts m.now)) }
+{
+    let one = entry_weight(c, key_type, value_type)?;
+    let units = sum(1, product(vs.len() as u64, one)?)?;
+    let mut state = copied(c, &[])?;
+    let fits = with_pairs(c, key_type, vs, &mut state)?;
+    if !fits {
+        return Err(too_big());
+    }
+    let entries: &'a [Entry<'a>] = c.arena.try_alloc_slice_copy(state.entries.as_slice())?;
+    let map = alone(c, Scalar::Map(m.maps.len() as u64))?;
+    Ok(Gives {
+        values: Values::One(map),
+        change: Change::AddsMap {
+            entries,
+            next_birth: state.next_birth,
+        },
+        units,
+    })
+}
+
+/// A map literal; `t` is the map's underlying type.
+pub fn build_map_step<'a>(
+    c: &Context<'a>,
+    t: TypeId,
+    vs: &[&'a [Scalar<'a>]],
+    m: &Memory<'a>,
+) -> Result<Gives<'a>, Stop>
+    ensures value { let ts = places c.now.table.now in Does ts (memory_of ts m.now) result (defined.build_map_step (names c.now.table.now) (tree_of ts t) (values_of ts vs.now) (memory_of ts m.now)) }
+{
+    match level_at(c.table, t) {
+        Some(GoType::Map(k, v)) => built_of(c, *k, *v, vs, m),
+        _ => Err(Stop::NoStep),
+    }
+}

@@ -1,0 +1,18 @@
+use Rattle.std.proofs.Common.{◌∙◌, refl, sym, ap, ℕ}
+use Rattle.go_type.specs.Table.{places}
+use Rattle.go_core.specs.Did.{value_of}
+use Rattle.go_core.specs.Memory as core
+use Rattle.go_operators.proofs.Steps.{goes, stopped}
+use Rattle.go_operators.proofs.places.element_at.Goals as goal
+
+pub returns-in_err-k : goal.returns-in_err-k
+returns-in_err-k c = record { value = λ m. stopped (places c.args.c.now.table.now) m c.from_residual.result _ _ _ refl c.from_residual.ensures.1 (c.in_err-k.ensures.value _) }
+
+pub returns : goal.returns
+returns c = record {
+  value = λ m.
+    let ts = places c.args.c.now.table.now in
+    goes ts m c.gives_one.result _ _
+    (c.in_ok-k.ensures.value _ ∙ ap (λ (n : ℕ). value_of m (core.pointer n) 0) (sym c.in_ok-place.ensures.value))
+    (c.gives_one.ensures.value ts m);
+}
