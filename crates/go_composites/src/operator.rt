@@ -96,3 +96,149 @@ pub enum Operator<'p> {
     ToBasic,
     ToGate,
 }
+
+// No operand.
+fn none(vs: &[&[Scalar]]) -> Result<(), Stop>
+    ensures value { (ts : List Ty) → NoneLeft result (did.on_none (values_of ts vs.now)) }
+{
+    match vs {
+        [] => Ok(()),
+        _ => Err(Stop::NoStep),
+    }
+}
+
+// The one operand.
+fn one<'a>(vs: &[&'a [Scalar<'a>]]) -> Result<&'a [Scalar<'a>], Stop>
+    ensures value { (ts : List Ty) → Found (λ x. value_of ts x.now) result (λ f. did.on_one (values_of ts vs.now) f) }
+{
+    match vs {
+        [x] => Ok(*x),
+        _ => Err(Stop::NoStep),
+    }
+}
+
+/// Two operands, from the left.
+#[derive(Clone, Copy)]
+struct Pair<'a> {
+    left: &'a [Scalar<'a>],
+    right: &'a [Scalar<'a>],
+}
+
+// The two operands.
+fn two<'a>(vs: &[&'a [Scalar<'a>]]) -> Result<Pair<'a>, Stop>
+    ensures value { (ts : List Ty) → PairFound ts result (did.on_two (values_of ts vs.now)) }
+{
+    match vs {
+        [x, y] => Ok(Pair {
+            left: *x,
+            right: *y,
+        }),
+        _ => Err(Stop::NoStep),
+    }
+}
+
+/// A step of this kind, with these operands, from the left. `wanted` is the capacity that a growing
+/// append wants, where Go leaves it open.
+pub fn operated<'a>(
+    c: &Context<'a>,
+    p: &Program,
+    wanted: u64,
+    operator: Operator,
+    vs: &[&'a [Scalar<'a>]],
+    m: &Memory<'a>,
+) -> Result<Gives<'a>, Stop>
+    requires { c.now.table.now ≡ p.now.types }
+    ensures value { let ts = places p.now.types in Does ts (memory_of ts m.now) result (defined.operated (program_view p.now) wanted (operator_of ts operator) (values_of ts vs.now) (memory_of ts m.now)) }
+{
+    match operator {
+        Operator::GiveConstant(value) => {
+            none(vs)?;
+            constant_step(c, value)
+        }
+        Operator::GiveZero(t) => {
+            none(vs)?;
+            zero_step(c, t)
+        }
+        Operator::AtGlobal(number) => {
+            none(vs)?;
+            global_step(c, p, number)
+        }
+        Operator::AtPointer => deref_step(c, one(vs)?),
+        Operator::AtField {
+            struct_type,
+            number,
+        } => field_step(c, struct_type, number, one(vs)?),
+        Operator::AtElem(t) => {
+            let xs = two(vs)?;
+            elem_step(c, underlying(c.table, t), xs.left, xs.right)
+        }
+        Operator::AtSliceElem(t) => {
+            let xs = two(vs)?;
+            slice_elem_step(c, underlying(c.table, t), xs.left, xs.right)
+        }
+        Operator::ReadPlace(t) => read_step(c, t, one(vs)?, m),
+        Operator::ToAddress => {
+            let x = one(vs)?;
+            Ok(gives_value(x, 0))
+        }
+        Operator::ToUnary(op, t) => unary_step(c, op, t, one(vs)?),
+        Operator::ToBinary(op, t) => {
+            let xs = two(vs)?;
+            binary_step(c, op, t, xs.left, xs.right)
+        }
+        Operator::ToConcat => {
+            let xs = two(vs)?;
+            concat_step(c, xs.left, xs.right)
+        }
+        Operator::ToNot => not_step(c, one(vs)?),
+        Operator::ToEqual { negated, operands } => {
+            let xs = two(vs)?;
+            equal_step(c, negated, operands, xs.left, xs.right)
+        }
+        Operator::ToLess { op, operands } => {
+            let xs = two(vs)?;
+            less_step(c, op, underlying(c.table, operands), xs.left, xs.right)
+        }
+        Operator::ToConverted { from, to } => convert_step(c, from, to, one(vs)?, m),
+        Operator::ToByte => {
+            let xs = two(vs)?;
+            byte_at_step(c, xs.left, xs.right)
+        }
+        Operator::ToSlice { from, written } => slice_step(c, from, written, vs),
+        Operator::ToBuilt { ty, count, indexes } => build_step(c, ty, count, indexes, vs, m),
+        Operator::ToBuiltMap(t) => build_map_step(c, underlying(c.table, t), vs, m),
+        Operator::ToBound(method) => bind_step(c, p, method, one(vs)?),
+        Operator::ToBoundDynamic { name, package } => {
+            bind_dynamic_step(c, p, name.as_bytes(), package.as_bytes(), one(vs)?)
+        }
+        Operator::GetEntry { map_type, ok } => {
+            let xs = two(vs)?;
+            map_get_step(c, underlying(c.table, map_type), ok, xs.left, xs.right, m)
+        }
+        Operator::DeleteEntry(t) => {
+            let xs = two(vs)?;
+            map_delete_step(c, underlying(c.table, t), xs.left, xs.right, m)
+        }
+        Operator::ToLen(from) => len_step(c, from, one(vs)?, m),
+        Operator::ToCap(from) => cap_step(c, from, one(vs)?, m),
+        Operator::ToAppended(t) => {
+            let xs = two(vs)?;
+            append_step(c, underlying(c.table, t), wanted, xs.left, xs.right, m)
+        }
+        Operator::ToCopied(t) => {
+            let xs = two(vs)?;
+            copy_step(c, underlying(c.table, t), xs.left, xs.right, m)
+        }
+        Operator::ToNewSlice(t) => make_slice_step(c, underlying(c.table, t), vs, m),
+        Operator::ToNewMap => make_map_step(c, vs, m),
+        Operator::ToNewChannel => make_channel_step(c, vs, m),
+        Operator::ToNew(t) => {
+            none(vs)?;
+            new_step(c, t, m)
+        }
+        Operator::ToInterface(from) => wrap_step(c, from, one(vs)?),
+        Operator::ToAsserted { ty, ok } => assert_step(c, p, ty, ok, one(vs)?),
+        Operator::ToBasic => basic_step(c, one(vs)?),
+        Operator::ToGate => gate_step(c, one(vs)?, m),
+    }
+}

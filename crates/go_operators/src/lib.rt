@@ -6,3 +6,6 @@ pub mod convert;
 pub mod did;
 pub mod numbers;
 pub mod places;
+
+#[cfg(test)]
+mod tests;
