@@ -16,9 +16,9 @@ and_is m (different n) = refl
 and_is m (refused n) = refl
 
 taking_none : (v : Verdict) → taking 0 v ≡ v
-taking_none (equal n) = refl
-taking_none (different n) = refl
-taking_none (refused n) = refl
+taking_none (equal n) = ap equal (omega arith)
+taking_none (different n) = ap different (omega arith)
+taking_none (refused n) = ap refused (omega arith)
 
 taking_both : (m n : ℕ) (v : Verdict) → taking m (taking n v) ≡ taking (m + n) v
 taking_both m n (equal k) = ap equal (omega arith)
@@ -30,11 +30,11 @@ module _ (ns : List NamedTy) (ts : List Ty) where
   abbrev pub rest_from : List Bool → List Scalar → List Scalar → ℕ → Verdict
   rest_from looked xs ys i = compare_all ns (drop i looked) (packed (value_of ts (drop i xs))) (packed (value_of ts (drop i ys)))
 
-  one_on : (looked : List Bool) (xs ys : List Scalar) (i : ℕ) (f : Bool) (x y : Scalar) → i < length looked → i < length xs → i < length ys
-      → f ≡ get_or looked i f → x ≡ get_or xs i x → y ≡ get_or ys i y
+  one_on : (looked : List Bool) (xs ys : List Scalar) (i : ℕ) (f d : Bool) (x y : Scalar) → i < length looked → i < length xs → i < length ys
+      → f ≡ get_or looked i d → x ≡ get_or xs i x → y ≡ get_or ys i y
       → rest_from looked xs ys i ≡ and_next (if_compared f (compare_scalars ns (scalar_of ts x) (scalar_of ts y))) (rest_from looked xs ys (i + 1))
-  one_on looked xs ys i f x y hl hx hy ef ex ey =
-      let dl : drop i looked ≡ f ∷ drop (i + 1) looked = drop_more looked i f hl ∙ ap (λ (b : Bool). b ∷ drop (i + 1) looked) (sym ef) in
+  one_on looked xs ys i f d x y hl hx hy ef ex ey =
+      let dl : drop i looked ≡ f ∷ drop (i + 1) looked = drop_more looked i d hl ∙ ap (λ (b : Bool). b ∷ drop (i + 1) looked) (sym ef) in
       let dx : drop i xs ≡ x ∷ drop (i + 1) xs = drop_more xs i x hx ∙ ap (λ (b : Scalar). b ∷ drop (i + 1) xs) (sym ex) in
       let dy : drop i ys ≡ y ∷ drop (i + 1) ys = drop_more ys i y hy ∙ ap (λ (b : Scalar). b ∷ drop (i + 1) ys) (sym ey) in
       ap (λ (fs : List Bool). compare_all ns fs (packed (value_of ts (drop i xs))) (packed (value_of ts (drop i ys)))) dl
@@ -42,20 +42,20 @@ module _ (ns : List NamedTy) (ts : List Ty) where
       ∙ ap (λ (us : List Scalar). compare_all ns (f ∷ drop (i + 1) looked) (packed (value_of ts (x ∷ drop (i + 1) xs))) (packed (value_of ts us))) dy
 
   -- where no difference is found
-  pub goes_on : (looked : List Bool) (xs ys : List Scalar) (i m n : ℕ) (f : Bool) (x y : Scalar) (v all : Verdict) → i < length looked → i < length xs → i < length ys
-      → f ≡ get_or looked i f → x ≡ get_or xs i x → y ≡ get_or ys i y → v ≡ if_compared f (compare_scalars ns (scalar_of ts x) (scalar_of ts y)) → v ≡ equal n
+  pub goes_on : (looked : List Bool) (xs ys : List Scalar) (i m n : ℕ) (f d : Bool) (x y : Scalar) (v all : Verdict) → i < length looked → i < length xs → i < length ys
+      → f ≡ get_or looked i d → x ≡ get_or xs i x → y ≡ get_or ys i y → v ≡ if_compared f (compare_scalars ns (scalar_of ts x) (scalar_of ts y)) → v ≡ equal n
       → all ≡ taking m (rest_from looked xs ys i) → all ≡ taking (m + n) (rest_from looked xs ys (i + 1))
-  goes_on looked xs ys i m n f x y v all hl hx hy ef ex ey e q h =
+  goes_on looked xs ys i m n f d x y v all hl hx hy ef ex ey e q h =
       let next = rest_from looked xs ys (i + 1) in
-      h ∙ ap (taking m) (one_on looked xs ys i f x y hl hx hy ef ex ey ∙ ap (λ (w : Verdict). and_next w next) (sym e ∙ q) ∙ and_is n next) ∙ taking_both m n next
+      h ∙ ap (taking m) (one_on looked xs ys i f d x y hl hx hy ef ex ey ∙ ap (λ (w : Verdict). and_next w next) (sym e ∙ q) ∙ and_is n next) ∙ taking_both m n next
 
   -- the first difference
-  pub stops : (looked : List Bool) (xs ys : List Scalar) (i m : ℕ) (f : Bool) (x y : Scalar) (v all : Verdict) → i < length looked → i < length xs → i < length ys
-      → f ≡ get_or looked i f → x ≡ get_or xs i x → y ≡ get_or ys i y → v ≡ if_compared f (compare_scalars ns (scalar_of ts x) (scalar_of ts y)) → ((n : ℕ) → ¬ (v ≡ equal n))
+  pub stops : (looked : List Bool) (xs ys : List Scalar) (i m : ℕ) (f d : Bool) (x y : Scalar) (v all : Verdict) → i < length looked → i < length xs → i < length ys
+      → f ≡ get_or looked i d → x ≡ get_or xs i x → y ≡ get_or ys i y → v ≡ if_compared f (compare_scalars ns (scalar_of ts x) (scalar_of ts y)) → ((n : ℕ) → ¬ (v ≡ equal n))
       → all ≡ taking m (rest_from looked xs ys i) → taking m v ≡ all
-  stops looked xs ys i m f x y v all hl hx hy ef ex ey e no_equal h =
+  stops looked xs ys i m f d x y v all hl hx hy ef ex ey e no_equal h =
       let next = rest_from looked xs ys (i + 1) in
-      sym (h ∙ ap (taking m) (one_on looked xs ys i f x y hl hx hy ef ex ey ∙ ap (λ (w : Verdict). and_next w next) (sym e) ∙ stays v next no_equal))
+      sym (h ∙ ap (taking m) (one_on looked xs ys i f d x y hl hx hy ef ex ey ∙ ap (λ (w : Verdict). and_next w next) (sym e) ∙ stays v next no_equal))
     where
       stays : (w next : Verdict) → ((n : ℕ) → ¬ (w ≡ equal n)) → and_next w next ≡ w
       stays (equal n) next k = absurd (k n refl)

@@ -37,7 +37,7 @@ mutual
   length_flags (one kind) = refl
   length_flags (many ps) = length_padded_flags (parts_flags ps) ∙ ap at_least_one (length_parts_flags ps)
 
-  length_parts_flags : (ps : Parts) → length (parts_flags ps) ≡ parts_size ps
+  pub length_parts_flags : (ps : Parts) → length (parts_flags ps) ≡ parts_size ps
   length_parts_flags no_parts = refl
   length_parts_flags (part true s ps) = length-append (flags s) (parts_flags ps) ∙ ap (λ (n : ℕ). n + length (parts_flags ps)) (length_flags s) ∙ ap (λ (n : ℕ). size s + n) (length_parts_flags ps)
   length_parts_flags (part false s ps) = length-append (replicate (size s) false) (parts_flags ps) ∙ ap (λ (n : ℕ). n + length (parts_flags ps)) (length_replicate (size s) false) ∙ ap (λ (n : ℕ). size s + n) (length_parts_flags ps)

@@ -58,15 +58,14 @@ copies_end ts start now looked n i s h o =
 -- ---- the fields of a struct
 
 pub fields_step : (ts : List Ty) (of_name : ℕ → Shape) (start now next : Layout) (looked compared : Bool) (fs : List FieldRow) (i : ℕ) (r : FieldRow) (t : TypeId)
-    → i < length fs → r ≡ get_or fs i r → t ≡ (get_or fs i r).ty → compared ≡ (looked && not (is_blank r.name))
+    → i < length fs → t ≡ (get_or fs i r).ty → compared ≡ (looked && not (is_blank (get_or fs i r).name))
     → Onward ts start now looked (parts_with of_name (fields_of ts (drop i fs))) (parts_with of_name (fields_of ts fs)) → Adds ts now next compared (shape_with of_name (tree_of ts t))
     → Onward ts start next looked (parts_with of_name (fields_of ts (drop (i + 1) fs))) (parts_with of_name (fields_of ts fs))
-fields_step ts of_name start now next looked compared fs i r t h is e b o a =
+fields_step ts of_name start now next looked compared fs i r t h e b o a =
     let u = uncons fs i h in
     let f = u.first in
-    let same : r ≡ f = is ∙ u.at r in
     let ty : t ≡ f.ty = e ∙ ap (λ (g : FieldRow). g.ty) (u.at r) in
-    let blank : compared ≡ (looked && not (is_blank f.name)) = b ∙ ap (λ (g : FieldRow). looked && not (is_blank g.name)) same in
+    let blank : compared ≡ (looked && not (is_blank f.name)) = b ∙ ap (λ (g : FieldRow). looked && not (is_blank g.name)) (u.at r) in
     let o' = subst (λ (rs : List FieldRow). Onward ts start now looked (parts_with of_name (fields_of ts rs)) (parts_with of_name (fields_of ts fs))) u.split o in
     let a' = subst (λ (x : TypeId). Adds ts now next compared (shape_with of_name (tree_of ts x))) ty a in
     onward_step ts start now next looked (not (is_blank f.name)) compared (shape_with of_name (tree_of ts f.ty)) (parts_with of_name (fields_of ts (drop (i + 1) fs))) (parts_with of_name (fields_of ts fs)) blank o' a'
@@ -106,8 +105,8 @@ closes ts start mid new looked ps before b a hz hf hs hc = by_zeros (parts_zeros
   where
     count : length mid.zeros.items ≡ length start.zeros.items + length (parts_zeros ps)
     count =
-        sym (length-map (scalar_of ts) mid.zeros.items) ∙ ap length a.zeros_ ∙ length-append (value_of ts start.zeros.items) (parts_zeros ps)
-        ∙ ap (λ (n : ℕ). n + length (parts_zeros ps)) (length-map (scalar_of ts) start.zeros.items)
+        sym (length-map mid.zeros.items (scalar_of ts)) ∙ ap length a.zeros_ ∙ length-append (value_of ts start.zeros.items) (parts_zeros ps)
+        ∙ ap (λ (n : ℕ). n + length (parts_zeros ps)) (length-map start.zeros.items (scalar_of ts))
     flag_count : length (parts_flags ps) ≡ length (parts_zeros ps)
     flag_count = length_parts_flags ps ∙ sym (length_parts_zeros ps)
     total : new.composites ≡ start.composites + suc (parts_composites ps)
@@ -148,16 +147,16 @@ laid ts old new s ez ef ec a =
       zeros_ = z;
       flags_ = a.flags_ ∙ ap (λ (fs : List Bool). fs ++ flags s) ef;
       composites_ = omega (arith, c, ec);
-      size_ = sym (length-map (scalar_of ts) new.zeros.items) ∙ ap length z ∙ length_zeros s;
+      size_ = sym (length-map new.zeros.items (scalar_of ts)) ∙ ap length z ∙ length_zeros s;
     }
 
 pub laid_size : (ts : List Ty) (old new : Layout) (s : Shape) → old.zeros.items ≡ [] → Adds ts old new true s → length new.zeros.items ≡ size s
 laid_size ts old new s ez a =
-    sym (length-map (scalar_of ts) new.zeros.items) ∙ ap length (a.zeros_ ∙ ap (λ (xs : List Scalar). value_of ts xs ++ zeros s) ez) ∙ length_zeros s
+    sym (length-map new.zeros.items (scalar_of ts)) ∙ ap length (a.zeros_ ∙ ap (λ (xs : List Scalar). value_of ts xs ++ zeros s) ez) ∙ length_zeros s
 
 pub laid_parts_size : (ts : List Ty) (old new : Layout) (ps : Parts) → old.zeros.items ≡ [] → AddsParts ts old new true ps → length new.zeros.items ≡ parts_size ps
 laid_parts_size ts old new ps ez a =
-    sym (length-map (scalar_of ts) new.zeros.items) ∙ ap length (a.zeros_ ∙ ap (λ (xs : List Scalar). value_of ts xs ++ parts_zeros ps) ez) ∙ length_parts_zeros ps
+    sym (length-map new.zeros.items (scalar_of ts)) ∙ ap length (a.zeros_ ∙ ap (λ (xs : List Scalar). value_of ts xs ++ parts_zeros ps) ez) ∙ length_parts_zeros ps
 
 -- ---- what a named type stands for
 

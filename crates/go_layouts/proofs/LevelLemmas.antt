@@ -29,7 +29,7 @@ outside w t h =
     get_or-eq_default (places w) bool (omega (arith, e, h))
 
 pub count_names : (w : TypeTable) → name_count w ≡ length (names w)
-count_names w = sym (length-map (named_of (trees w.levels.keys)) w.names.items)
+count_names w = sym (length-map w.names.items (named_of (trees w.levels.keys)))
 
 -- a field with what stands after it
 pub record Uncons (fs : List FieldRow) (i : ℕ) : Type 0 where

@@ -1,7 +1,7 @@
 -- Where fields and elements lie.
-use Rattle.std.proofs.Common.{refl, ap, ◌∙◌, arith}
+use Rattle.std.proofs.Common.{refl, sym, ap, ◌∙◌, arith}
 use Rattle.std.specs.Prelude.{◌≡◌, ◌<◌, ◌≤◌, ℕ, zero, suc, ◌+◌, ◌*◌, List, [], ◌∷◌, length, take}
-use Rattle.std.proofs.Math.Nat.{suc-mul}
+use Rattle.std.proofs.Math.Nat.{suc-mul, zero-mul}
 use Rattle.go_type.specs.Tree.{Ty}
 use Rattle.go_type.specs.Levels.{tree_of, fields_of}
 use Rattle.go_type.specs.declared.types.FieldRow.{FieldRow}
@@ -28,7 +28,7 @@ module _ (ts : List Ty) (of_name : ℕ → Shape) where
 
 nth_copy : (n : ℕ) (s : Shape) (i : ℕ) → i < n → nth_part (copies n s) i ≡ located s (i * size s)
 nth_copy zero s i h = absurd (omega (arith, h))
-nth_copy (suc n) s zero h = refl
+nth_copy (suc n) s zero h = ap (located s) (sym (zero-mul (size s)))
 nth_copy (suc n) s (suc i) h =
     let e : suc i * size s ≡ i * size s + size s = suc-mul i (size s) in
     ap (further (size s)) (nth_copy n s i (omega (arith, h))) ∙ ap (located s) (omega (arith, e))

@@ -223,6 +223,7 @@ same_is a b false h k = by_answer (same_type a b) refl
   where
     no_truth : false ≡ true → ⊥
     no_truth e = cc
+
     by_answer : (d : Bool) → same_type a b ≡ d → false ≡ same_type a b
     by_answer true e = absurd (no_truth (k (type_one a b e)))
     by_answer false e = sym e

@@ -280,7 +280,10 @@ fn xor(kind: Kind, x: i128, y: i128) -> i128
 fn and_not(kind: Kind, x: i128, y: i128) -> i128
     ensures value { result ≡ defined.wrapped kind (pos (bit_and (defined.bits_of kind x) (2 ^ defined.width kind - 1 - defined.bits_of kind y))) }
 {
-    wrapped_natural(kind, bits_of(kind, x) & (modulus(kind) - 1 - bits_of(kind, y)))
+    wrapped_natural(
+        kind,
+        bits_of(kind, x) & (modulus(kind) - 1 - bits_of(kind, y)),
+    )
 }
 
 /// What an operator gives of two integers of the kind; none where the step panics.

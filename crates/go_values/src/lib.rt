@@ -7,7 +7,6 @@ pub mod memory;
 pub mod output;
 pub mod run_panic;
 pub mod scalar;
-pub mod text;
-
 #[cfg(test)]
 mod tests;
+pub mod text;

@@ -23,10 +23,7 @@ pub enum RunPanic {
     ZeroDivisor,
     /// A nil pointer, a nil function, a method of a nil interface value.
     NilUsed,
-    BadIndex {
-        index: i128,
-        length: u64,
-    },
+    BadIndex { index: i128, length: u64 },
     BadBounds,
     NegativeShift,
     /// A negative size, a length above the capacity, or past a limit.

@@ -92,10 +92,7 @@ fn four_bytes(a: u8, rest: &[u8]) -> Rune
     match rest {
         [b, c, d, ..] if goes_on(*b) && goes_on(*c) && goes_on(*d) => checked(
             0x1_0000,
-            (a - 0xf0) as u32 * 262144
-                + low_bits(*b) * 4096
-                + low_bits(*c) * 64
-                + low_bits(*d),
+            (a - 0xf0) as u32 * 262144 + low_bits(*b) * 4096 + low_bits(*c) * 64 + low_bits(*d),
             4,
         ),
         _ => BAD_BYTE,
@@ -153,7 +150,11 @@ fn natural_character(code: u128) -> u32
     ensures value { defined.encoded_number (pos code) ≡ defined.encoded result }
     ensures within { result < 2 ^ 21 }
 {
-    if is_character(code) { code as u32 } else { 0xfffd }
+    if is_character(code) {
+        code as u32
+    } else {
+        0xfffd
+    }
 }
 
 fn character(n: i128) -> u32

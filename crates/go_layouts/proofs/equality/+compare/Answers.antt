@@ -1,4 +1,4 @@
-use Rattle.std.proofs.Common.{◌≡◌, ◌∙◌, ◌+◌, sym, ap, subst, arith, rules, ℕ, List, Bool, true, false}
+use Rattle.std.proofs.Common.{◌≡◌, ◌∙◌, ◌+◌, get_or, refl, sym, ap, subst, arith, rules, ℕ, List, Bool, true, false}
 use Rattle.std.specs.Prelude.{IfOk}
 use Rattle.go_type.specs.Levels.{tree_of}
 use Rattle.go_type.specs.Table.{places, names}
@@ -27,15 +27,15 @@ compare_all-returns-then-i-ys t c = record {
 
 pub compare_all-scalars-preserved : goal.compare_all-scalars-preserved
 compare_all-scalars-preserved t c =
-    goes_on (names c.args.table.now) (places c.args.table.now) c.args.looked.now c.args.xs.now c.args.ys.now c.scalars.i c.scalars.units c.in-Some.n c.index-looked-i.result c.index-xs-i.result c.index-ys-i.result (verdict_of c.in_ok-found.found) _
-    (omega (arith, c.scalars-test.true)) (omega (arith, c.if-i-xs.false)) (omega (arith, c.if-i-ys.false)) c.index-looked-i.is c.index-xs-i.is c.index-ys-i.is c.in_ok-found.ensures.value c.in-Some.ensures.some c.scalars.invariant
+    goes_on (names c.args.table.now) (places c.args.table.now) c.args.looked.now c.args.xs.now c.args.ys.now c.scalars.i c.scalars.units c.in-Some.n (get_or c.args.looked.now c.scalars.i false) false c.index-xs-i.result c.index-ys-i.result (verdict_of c.in_ok-found.found) _
+    (omega (arith, c.scalars-test.true)) (omega (arith, c.if-i-xs.false)) (omega (arith, c.if-i-ys.false)) refl c.index-xs-i.is c.index-ys-i.is c.in_ok-found.ensures.value c.in-Some.ensures.some c.scalars.invariant
     ∙ ap (λ (k : ℕ). taking k (rest_from (names c.args.table.now) (places c.args.table.now) c.args.looked.now c.args.xs.now c.args.ys.now (c.scalars.i + 1))) (sym c.in_ok-more.ensures.value)
 
 pub compare_all-returns-in-None : goal.compare_all-returns-in-None
 compare_all-returns-in-None t c = record {
   value =
-    let e = stops (names c.args.table.now) (places c.args.table.now) c.args.looked.now c.args.xs.now c.args.ys.now c.scalars.i c.scalars.units c.index-looked-i.result c.index-xs-i.result c.index-ys-i.result (verdict_of c.in_ok-found.found) _
-      (omega (arith, c.scalars-test.true)) (omega (arith, c.if-i-xs.false)) (omega (arith, c.if-i-ys.false)) c.index-looked-i.is c.index-xs-i.is c.index-ys-i.is c.in_ok-found.ensures.value c.in-None.ensures.none c.scalars.invariant in
+    let e = stops (names c.args.table.now) (places c.args.table.now) c.args.looked.now c.args.xs.now c.args.ys.now c.scalars.i c.scalars.units (get_or c.args.looked.now c.scalars.i false) false c.index-xs-i.result c.index-ys-i.result (verdict_of c.in_ok-found.found) _
+      (omega (arith, c.scalars-test.true)) (omega (arith, c.if-i-xs.false)) (omega (arith, c.if-i-ys.false)) refl c.index-xs-i.is c.index-ys-i.is c.in_ok-found.ensures.value c.in-None.ensures.none c.scalars.invariant in
     subst (λ (w : Verdict). IfOk c.taking.result (λ v. verdict_of v ≡ w)) e c.taking.ensures.value;
 }
 

@@ -1,4 +1,4 @@
-use Rattle.std.proofs.Common.{◌<◌, ◌∙◌, sym, ap, subst}
+use Rattle.std.proofs.Common.{◌∙◌, sym, ap}
 use Rattle.go_type.specs.declared.types.FieldRow.{FieldRow}
 use Rattle.go_layouts.proofs.LevelLemmas.{uncons, below_read}
 use Rattle.go_layouts.proofs.fields.type_at.Goals as goal
@@ -9,6 +9,6 @@ returns c =
     let r = c.index-fields-i.result in
     let u = uncons fs c.args.i c.requires.i in
     record {
-      value = λ d. ap (λ (f : FieldRow). f.ty) (c.index-fields-i.is ∙ u.at r ∙ sym (u.at d));
-      below = subst (λ (f : FieldRow). f.ty.0 < c.args.owner.0) (sym c.index-fields-i.is) (below_read c.args.owner.0 fs c.args.i r c.requires.fields c.requires.i);
+      value = λ d. ap (λ (f : FieldRow). f.ty) (u.at r ∙ sym (u.at d));
+      below = below_read c.args.owner.0 fs c.args.i r c.requires.fields c.requires.i;
     }

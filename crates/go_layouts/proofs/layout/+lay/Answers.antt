@@ -15,7 +15,7 @@ pub lay_fields-fields-preserved : goal.lay_fields-fields-preserved
 lay_fields-fields-preserved t c =
     let named = c.is_compared-compared.ensures.value ∙ ap (λ (n : List ℕ). c.args.looked && not (is_blank n)) c.as_bytes.ensures in
     fields_step (places c.args.table.now) (name_shape (names c.args.table.now) c.args.left) c.args.out.now c.fields.out c.lay.new.out c.args.looked c.is_compared-compared.result c.args.fields.now c.fields.i
-    c.index-fields-i.result c.type_at.result (omega (arith, c.fields-test.true)) c.index-fields-i.is (c.type_at.ensures.value c.index-fields-i.result) named c.fields.invariant c.in_ok-lay.ensures.value
+    c.index-fields-i.result c.type_at.result (omega (arith, c.fields-test.true)) (c.type_at.ensures.value c.index-fields-i.result) named c.fields.invariant c.in_ok-lay.ensures.value
 
 pub lay_fields-returns : goal.lay_fields-returns
 lay_fields-returns t c = record {
@@ -47,3 +47,6 @@ pub lay_named-returns-in-None : goal.lay_named-returns-in-None
 lay_named-returns-in-None t c = record {
   value = on_ok_weaker c.lay_pointer.result (λ h. subst (λ (s : Shape). Adds (places c.args.table.now) c.args.out.now c.lay_pointer.new.out c.args.looked s) (sym c.in-None.ensures.none) (h (places c.args.table.now))) c.lay_pointer.ensures.value;
 }
+
+pub lay-returns-in_default : goal.lay-returns-in_default
+lay-returns-in_default t c = ?

@@ -20,6 +20,6 @@ returns-then-b-len c =
 pub returns : goal.returns
 returns c = record {
   value =
-    let ts = places c.args.table.now in
-    same_is (tree_of ts c.args.a) (tree_of ts c.args.b) c.identical.result c.identical.ensures.exact.0 c.identical.ensures.exact.1;
+      let ts = places c.args.table.now in
+      same_is (tree_of ts c.args.a) (tree_of ts c.args.b) c.identical.result c.identical.ensures.exact.0 c.identical.ensures.exact.1;
 }
