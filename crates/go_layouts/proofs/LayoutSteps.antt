@@ -3,7 +3,7 @@ use Rattle.std.proofs.Common.{refl, sym, ap, ◌∙◌, arith, subst}
 use Rattle.std.specs.Prelude.{◌≡◌, ◌<◌, ◌≤◌, ℕ, zero, suc, Option, Some, None, IfSome, IfNone, option_map, ◌+◌, ◌-◌, List, [], ◌∷◌, ◌++◌, Bool, true, false, ◌&&◌, not, length, drop, get_or}
 use Rattle.std.proofs.lemmas.List.{append_assoc, append-nil, length-append, length-map, map-append, drop_all}
 use Rattle.go_type.specs.Tree.{Ty}
-use Rattle.go_type.specs.Levels.{tree_of, fields_of}
+use Rattle.go_type.specs.Levels.{level, tree_of, fields_of}
 use Rattle.go_type.specs.Named.{NamedTy}
 use Rattle.go_type.specs.Underlying.{under_at}
 use Rattle.go_type.specs.declared.types.FieldRow.{FieldRow}
@@ -11,9 +11,12 @@ use Rattle.go_core.specs.Layout.{ScalarKind, Shape, one, many, Parts, no_parts, 
 use Rattle.go_core.specs.Memory as core
 use Rattle.go_core.specs.Memory.{Value, zeros, parts_zeros, zero_scalar, padded}
 use Rattle.go_values.specs.Seen.{scalar_of, value_of}
-use Rattle.go_layouts.specs.Laid.{masked, Adds, AddsParts, IsLaid}
+use Rattle.go_layouts.specs.Laid.{leaf_kind, masked, Adds, AddsParts, IsLaid}
 use Rattle.go_layouts.specs.declared.layout.Layout.{Layout}
 use Rattle.go_values.specs.declared.scalar.Scalar.{Scalar}
+use Rattle.go_type.specs.declared.types.GoType.{GoType}
+use Rattle.go_type.specs.declared.types.GoType.TheVariants as go
+use Rattle.go_type.specs.declared.types.NamedId.{NamedId}
 use Rattle.go_type.specs.declared.types.TypeId.{TypeId}
 use Rattle.go_layouts.proofs.LevelLemmas.{uncons}
 use Rattle.go_layouts.proofs.LayoutLemmas.{Onward, onward_start, onward_step, onward_end, length_zeros, length_parts_zeros, length_parts_flags}
@@ -179,3 +182,23 @@ left_some left (Some t) h = omega (arith, h)
 
 pub named_zero : (ns : List NamedTy) (left id : ℕ) → left ≡ 0 → name_shape ns left id ≡ one a_pointer
 named_zero ns left id e = ap (λ (k : ℕ). name_shape ns k id) e
+
+-- ---- a type that has no parts and no name
+
+pub leaf_shape : (ts : List Ty) (of_name : ℕ → Shape) (g : GoType) → ((n : ℕ) (t : TypeId) → ¬ (g ≡ go.Array n t)) → ((fs : List FieldRow) → ¬ (g ≡ go.Struct fs)) → ((id : NamedId) → ¬ (g ≡ go.Named id))
+    → one (leaf_kind (level ts g)) ≡ shape_with of_name (level ts g)
+leaf_shape ts of_name go.Bool a s n = refl
+leaf_shape ts of_name go.Str a s n = refl
+leaf_shape ts of_name (go.Int name) a s n = refl
+leaf_shape ts of_name go.Nil a s n = refl
+leaf_shape ts of_name (go.Untyped b) a s n = refl
+leaf_shape ts of_name (go.Array m t) a s n = absurd (a m t refl)
+leaf_shape ts of_name (go.Slice t) a s n = refl
+leaf_shape ts of_name (go.Struct fs) a s n = absurd (s fs refl)
+leaf_shape ts of_name (go.Pointer t) a s n = refl
+leaf_shape ts of_name (go.Func f) a s n = refl
+leaf_shape ts of_name (go.Interface ms) a s n = refl
+leaf_shape ts of_name (go.Map k v) a s n = refl
+leaf_shape ts of_name (go.Chan d t) a s n = refl
+leaf_shape ts of_name (go.Named id) a s n = absurd (n id refl)
+leaf_shape ts of_name (go.Tuple is) a s n = refl

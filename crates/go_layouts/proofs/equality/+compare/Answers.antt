@@ -29,7 +29,7 @@ pub compare_all-scalars-preserved : goal.compare_all-scalars-preserved
 compare_all-scalars-preserved t c =
     goes_on (names c.args.table.now) (places c.args.table.now) c.args.looked.now c.args.xs.now c.args.ys.now c.scalars.i c.scalars.units c.in-Some.n (get_or c.args.looked.now c.scalars.i false) false c.index-xs-i.result c.index-ys-i.result (verdict_of c.in_ok-found.found) _
     (omega (arith, c.scalars-test.true)) (omega (arith, c.if-i-xs.false)) (omega (arith, c.if-i-ys.false)) refl c.index-xs-i.is c.index-ys-i.is c.in_ok-found.ensures.value c.in-Some.ensures.some c.scalars.invariant
-    ∙ ap (λ (k : ℕ). taking k (rest_from (names c.args.table.now) (places c.args.table.now) c.args.looked.now c.args.xs.now c.args.ys.now (c.scalars.i + 1))) (sym c.in_ok-more.ensures.value)
+    ∙ ap (λ (k : ℕ). taking k (rest_from (names c.args.table.now) (places c.args.table.now) c.args.looked.now c.args.xs.now c.args.ys.now (c.scalars.i + 1))) (sym c.in_ok-more-in-Some.ensures.value)
 
 pub compare_all-returns-in-None : goal.compare_all-returns-in-None
 compare_all-returns-in-None t c = record {

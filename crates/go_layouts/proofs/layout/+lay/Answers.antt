@@ -4,7 +4,7 @@ use Rattle.go_type.specs.Levels.{tree_of, fields_of}
 use Rattle.go_type.specs.Table.{places, names}
 use Rattle.go_core.specs.Layout.{Shape, copies, shape_with, parts_with, name_shape, is_blank}
 use Rattle.go_layouts.specs.Laid.{Adds}
-use Rattle.go_layouts.proofs.LayoutSteps.{copies_step, fields_step, fields_end, closes}
+use Rattle.go_layouts.proofs.LayoutSteps.{copies_step, fields_step, fields_end, closes, leaf_shape}
 use Rattle.go_layouts.proofs.layout.+lay.Goals as goal
 
 pub lay_copies-copies-preserved : goal.lay_copies-copies-preserved
@@ -49,4 +49,10 @@ lay_named-returns-in-None t c = record {
 }
 
 pub lay-returns-in_default : goal.lay-returns-in_default
-lay-returns-in_default t c = ?
+lay-returns-in_default t c =
+    let ts = places c.args.table.now in
+    let of_name = name_shape (names c.args.table.now) c.args.left in
+    let e = leaf_shape ts of_name c.get.result.now c.in_default.not-Array c.in_default.not-Struct c.in_default.not-Named ∙ ap (shape_with of_name) c.get.ensures.tree in
+    record {
+      value = on_ok_weaker c.lay_leaf.result (λ h. subst (λ (s : Shape). Adds ts c.args.out.now c.lay_leaf.new.out c.args.looked s) e (h ts ts)) c.lay_leaf.ensures.value;
+    }
