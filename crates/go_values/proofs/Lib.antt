@@ -1,0 +1,4 @@
+pub mod LevelLemmas
+pub mod MemoryLemmas
+pub mod SameTypes
+pub mod TextLemmas
