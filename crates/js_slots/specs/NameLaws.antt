@@ -1,7 +1,7 @@
 -- Names once each, and their slots.
-use Rattle.std.proofs.Common.{arith, ◌≡◌, ℕ, zero, suc, ◌+◌, ◌∙◌, refl, sym, ap, subst, List, [], ◌∷◌, ◌++◌, Option, Some, None, Bool, true, false, cond, not, ◌||◌, is_some, map, length, append_assoc, nat_lt, true≢false, bytes_eq, option_map, slice_get}
+use Rattle.std.proofs.Common.{arith, ◌≡◌, ℕ, suc, ◌+◌, ◌∙◌, refl, sym, ap, subst, List, [], ◌∷◌, ◌++◌, Option, Some, None, Bool, true, false, cond, not, ◌||◌, is_some, length, append_assoc, nat_lt, true≢false, bytes_eq, option_map, slice_get}
 use Rattle.std.specs.Borrow.{Bor}
-use Rattle.std.specs.List.{list_any, position, position_or_len, fold}
+use Rattle.std.specs.List.{list_any, position, position_or_len}
 use Rattle.std.proofs.lemmas.Slice.Eq.{bytes_eq-Decides}
 use Rattle.std.proofs.lemmas.Bool.Decides.{nat_tests}
 use Rattle.std.proofs.lemmas.List.{append-nil, map-append}

@@ -1,5 +1,5 @@
 -- ECMA-262 5.1, 8.7 and 10.3.1: where what a name stands for is kept, once names are resolved.
-use Rattle.std.specs.Prelude.{ℕ, List, Option, Some, None, if◌then◌else◌, bytes_eq, codes}
+use Rattle.std.specs.Prelude.{List, Option, Some, None, if◌then◌else◌, bytes_eq, codes}
 use Rattle.js_tree.specs.Script.{Name, ScriptTree}
 use Rattle.js_tree.specs.Evaluate as run
 use Rattle.js_slots.specs.declared.place.Place.{Place}

@@ -1,17 +1,16 @@
 -- Variables in slots.
-use Rattle.std.proofs.Common.{arith, ◌≡◌, ℕ, zero, suc, ◌∙◌, refl, sym, ap, subst, List, [], ◌∷◌, ◌++◌, Option, Some, None, Bool, true, false, cond, ◌||◌, is_some, map, length, drop, true≢false, bytes_eq, codes, option_map, slice_get, slice_set}
+use Rattle.std.proofs.Common.{arith, ◌≡◌, ℕ, zero, suc, ◌∙◌, refl, sym, ap, subst, List, [], ◌∷◌, ◌++◌, Option, Some, None, Bool, true, false, cond, ◌||◌, is_some, map, length, drop, true≢false, bytes_eq, codes, option_map, slice_get}
 use Rattle.std.specs.Prelude.{option_and_then}
-use Rattle.std.specs.List.{list_any}
 use Rattle.std.proofs.lemmas.List.Sums.{fold-append}
-use Rattle.js_tree.specs.Script.{Name, Item, function_item, global_item, Function, ScriptTree}
-use Rattle.js_tree.specs.Value.{Value, function, World, Locals, Frame, Outcome, gives, over, Stuck, holds, lookup, with_entry}
+use Rattle.js_tree.specs.Script.{Name, Item, function_item, global_item}
+use Rattle.js_tree.specs.Value.{Value, function, World, Locals, gives, over, Stuck, holds, lookup, with_entry}
 use Rattle.js_tree.specs.Evaluate as run
 use Rattle.js_tree.specs.Evaluate.{Setting, Scope, host_named, find_function, is_global, global_value, name_value, set_name, set_local, frame, Flow, onward, bound, scope_of, declared_all}
 use Rattle.js_tree.specs.Static.{has_twice}
 use Rattle.js_slots.specs.declared.place.Place.{Place}
 use Rattle.js_slots.specs.declared.place.Place.TheVariants.{Caught, Local, Host, Function as in_function, Global, Nowhere}
 use Rattle.js_slots.specs.Names.{is_among, with_name, with_names, distinct, index_in, function_names, global_names}
-use Rattle.js_slots.specs.Places.{Table, table_of, placed, host_here, global_place, top_place, place_of, target_of}
+use Rattle.js_slots.specs.Places.{table_of, placed, host_here, top_place}
 use Rattle.js_slots.specs.Slots.{slots_of, slot_value, host_value, value_at, with_slot, OnlyGlobals, ReadsSlots, set_at, SetsPlace, SetsSlot, BindsSlots}
 use Rattle.js_slots.specs.NameLaws.{or_is, same_name, own_name, other_way, holds-is_among, is_among-with_names, distinct_once, with_names-once, with_names-more, index-is_among, index_found}
 

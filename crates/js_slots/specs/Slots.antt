@@ -1,5 +1,5 @@
 -- Own: variables in slots, one for each name, and that they are the variables of the definitions.
-use Rattle.std.specs.Prelude.{◌≡◌, ℕ, List, [], ◌∷◌, ◌++◌, Option, Some, None, Bool, true, false, map, length, bytes_eq, codes, slice_get, slice_set, drop, option_and_then, option_map}
+use Rattle.std.specs.Prelude.{◌≡◌, ℕ, List, ◌++◌, Option, Some, None, false, map, length, codes, slice_get, slice_set, drop, option_and_then, option_map}
 use Rattle.js_tree.specs.Script.{Name, Function, ScriptTree}
 use Rattle.js_tree.specs.Value.{Value, function, World, Locals, Frame, Outcome, gives, over, Stuck, lookup, with_entry}
 use Rattle.js_tree.specs.Evaluate.{Setting, Scope, Flow, onward, frame, name_value, set_name, set_local, bound, scope_of}
