@@ -55,6 +55,14 @@ compiles : (o : Option Tree) (folder : List ℕ) (packages : Packages) (main : p
 compiles None folder packages main s some read are plain faithful = tt
 compiles (Some tree) folder packages main s some read are plain faithful = (program_of main, holds tree folder packages main some read are plain, faithful)
 
+-- what comes of packages with a plain root
+pub builds_main : (r : Result (Unit {0}) Refused) (packages : Packages) (main : p.Main) (old new : FilesState) → main_of packages ≡ Some main → StoresMain r main old new → BuildsPackages r packages old new
+builds_main (Ok u) packages main old new found stored = (main, found, stored)
+builds_main (Err (refused.Fault fault entries)) packages main old new found stored = absurd stored
+builds_main (Err refused.ReadFault) packages main old new found stored = absurd stored
+builds_main (Err refused.WriteFault) packages main old new found stored = (main, found, stored)
+builds_main (Err refused.NoMemory) packages main old new found stored = stored
+
 -- what comes of packages
 pub builds : (r : Result (Unit {0}) Refused) (folder : List ℕ) (packages : Packages) (old new : FilesState) → 0 < length packages.files → IsRead old.tree folder packages.files → ArePackages packages
     → BuildsPackages r packages old new → Builds r folder old new

@@ -1,12 +1,15 @@
 -- The texts of statements, one by one.
-use Rattle.std.proofs.Common.{◌≡◌, ◌<◌, ◌≤◌, ◌+◌, ◌++◌, ℕ, zero, suc, List, [], ◌∷◌, Bool, true, false, not, length, drop, get_or, map, refl, sym, ap, ◌∙◌, arith, drop-cons}
+use Rattle.std.proofs.Common.{◌≡◌, ◌<◌, ◌≤◌, ◌+◌, ◌++◌, ℕ, zero, suc, List, [], ◌∷◌, Bool, true, false, not, length, drop, get_or, map, refl, sym, ap, ◌∙◌, arith, rules, drop-cons}
 use Rattle.std.specs.Prelude.{Option, Some, None, if◌then◌else◌}
 use Rattle.go_syntax.specs.Tree as t
-use Rattle.go_syntax.specs.View.{stmt_view, stmts_of, expr_view, exprs_of, param_view, joined}
+use Rattle.go_syntax.specs.View.{file_view, decl_view, stmt_view, stmts_of, expr_view, exprs_of, param_view, params_view, joined}
+use Rattle.go_syntax.specs.declared.tree.Decl.{Decl}
 use Rattle.go_syntax.specs.declared.tree.Expr.{Expr}
-use Rattle.go_syntax.specs.declared.tree.Param.{Param}
+use Rattle.go_syntax.specs.declared.tree.File.{File}
+use Rattle.go_syntax.specs.declared.tree.Param.{Param, fold_out-Param}
+use Rattle.go_syntax.specs.declared.tree.Params.{Params, out-Params, fold_out-Params}
 use Rattle.go_syntax.specs.declared.tree.Stmt.{Stmt}
-use Rattle.gopherjs.specs.Plain.{has_none, argument_text, is_empty, printed_text, with_text, texts_of}
+use Rattle.gopherjs.specs.Plain.{Main, has_none, argument_text, call_in, is_empty, printed_text, with_text, texts_of, main_in, plain_main}
 
 -- texts before others, where all are there
 abbrev pub before : List (List ℕ) → Option (List (List ℕ)) → Option (List (List ℕ))
@@ -78,13 +81,41 @@ pub whole : (stmts : List Stmt) → texts_from stmts 0 ≡ texts_of (stmts_of (m
 unfolding texts_from
 whole stmts = refl
 
+-- one parameter before others
+some_at : (p : Param) (rest : t.Params) → false ≡ has_none (param_view p rest)
+some_at p rest = search (rules, fold_out-Param)
+
+joined_some : (ps : List Param) → 1 ≤ length ps → false ≡ has_none (joined (map param_view ps) t.NoParams)
+joined_some [] h = absurd (omega (arith, h))
+joined_some (p ∷ ps) h = some_at p (joined (map param_view ps) t.NoParams)
+
+params_at : (params : Params) (ps : List Param) → ps ≡ (out-Params params).items.items → (params_view params).1 ≡ joined (map param_view ps) t.NoParams
+params_at params ps e = search (rules, fold_out-Params, e)
+
 -- parameters where there is one
-pub some_params : (params others : List Param) → others ≡ params → 1 ≤ length others → false ≡ has_none (joined (map param_view params) t.NoParams)
-some_params [] others e h = absurd (let none : length others ≡ 0 = ap length e in omega (arith, none, h))
-some_params (first ∷ params) others e h = refl
+pub some_params : (params : Params) (ps : List Param) → ps ≡ (out-Params params).items.items → 1 ≤ length ps → false ≡ has_none (params_view params).1
+some_params params ps e h = joined_some ps h ∙ ap has_none (sym (params_at params ps e))
 
 -- two arguments are not one string literal
 pub two_arguments : (es : List Expr) → 2 ≤ length es → (let none : Option (List ℕ) = None in none) ≡ argument_text (exprs_of (map expr_view es))
 two_arguments [] h = absurd (omega (arith, h))
 two_arguments (e ∷ []) h = absurd (omega (arith, h))
 two_arguments (e ∷ f ∷ es) h = refl
+
+-- two expressions are not one call
+pub two_calls : (es : List Expr) → 2 ≤ length es → (let none : Option (List ℕ) = None in none) ≡ call_in (exprs_of (map expr_view es))
+two_calls [] h = absurd (omega (arith, h))
+two_calls (e ∷ []) h = absurd (omega (arith, h))
+two_calls (e ∷ f ∷ es) h = refl
+
+-- two declarations are not one `main`
+pub two_decls : (ds : List Decl) → 2 ≤ length ds → (let none : Option Main = None in none) ≡ main_in (map decl_view ds)
+two_decls [] h = absurd (omega (arith, h))
+two_decls (d ∷ []) h = absurd (omega (arith, h))
+two_decls (d ∷ e ∷ ds) h = refl
+
+-- two files are not one
+pub two_files : (fs : List File) → 2 ≤ length fs → (let none : Option Main = None in none) ≡ plain_main (map file_view fs)
+two_files [] h = absurd (omega (arith, h))
+two_files (f ∷ []) h = absurd (omega (arith, h))
+two_files (f ∷ g ∷ fs) h = refl

@@ -21,8 +21,9 @@ pub fn plain_main(alloc: Global, files: &[File]) -> Result<Option<Main>, NoMemor
     ensures { IfOk result (λ found. option_map main_view found ≡ p.plain_main (map file_view files.now)) }
 {
     match files {
+        [] => Ok(None),
         [file] => main_in(alloc, file.decls.as_slice()),
-        _ => Ok(None),
+        [_, _, ..] => Ok(None),
     }
 }
 
@@ -30,8 +31,9 @@ fn main_in(alloc: Global, decls: &[Decl]) -> Result<Option<Main>, NoMemory>
     ensures { IfOk result (λ found. option_map main_view found ≡ p.main_in (map decl_view decls.now)) }
 {
     match decls {
+        [] => Ok(None),
         [decl] => main_of(alloc, decl),
-        _ => Ok(None),
+        [_, _, ..] => Ok(None),
     }
 }
 
@@ -127,8 +129,9 @@ fn call_in(exprs: &[Expr]) -> Option<&[u8]>
     ensures { option_map (λ text. text.now) result ≡ p.call_in (exprs_of (map expr_view exprs.now)) }
 {
     match exprs {
+        [] => None,
         [call] => call_text(call),
-        _ => None,
+        [_, _, ..] => None,
     }
 }
 
