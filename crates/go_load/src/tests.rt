@@ -428,6 +428,23 @@ fn hashes(alloc: Global, size: usize) -> Result<Vec<u8>, NoMemory> {
     Ok(bytes)
 }
 
+/// Loads these files: the fault at the start of the first one, and how many entries it brings.
+fn tells(
+    rt: &impl Abort,
+    alloc: Global,
+    files: &mut TreeFiles,
+    code: u16,
+    count: usize,
+) -> Result<(), NoMemory> {
+    let answer = load(alloc, files, "app", "src");
+    let got = told(&answer)?;
+    assert_eq!(rt; got.0, code);
+    assert_eq!(rt; got.1, 0);
+    assert_eq!(rt; got.2, 0);
+    assert_eq!(rt; entries_of(&answer).len(), count);
+    Ok(())
+}
+
 /// A file of 4194304 bytes is read whole.
 #[test]
 fn a_file_at_the_limit(rt: HostRuntime) -> Result<(), Fail> {
@@ -435,14 +452,7 @@ fn a_file_at_the_limit(rt: HostRuntime) -> Result<(), Fail> {
     assert_eq!(rt; bytes.len(), 4194304);
     let mut files = TreeFiles::new(rt.alloc());
     files.put("app/a.go", bytes.as_slice())?;
-    let answer = load(rt.alloc(), &mut files, "app", "src");
-    let got = told(&answer)?;
-    assert_eq!(rt; got.0, 1);
-    assert_eq!(rt; got.1, 0);
-    assert_eq!(rt; got.2, 0);
-    let entries = entries_of(&answer);
-    assert_eq!(rt; entries.len(), 1);
-    assert!(rt; !entries[0].too_long);
+    tells(&rt, rt.alloc(), &mut files, 1, 1)?;
     Ok(())
 }
 
@@ -473,11 +483,7 @@ fn a_long_file_may_have_main(rt: HostRuntime) -> Result<(), Fail> {
     assert_eq!(rt; bytes.len(), 4194305);
     let mut files = tree(rt.alloc(), &[("app/b.go", "package main\n")])?;
     files.put("app/a.go", bytes.as_slice())?;
-    let answer = load(rt.alloc(), &mut files, "app", "src");
-    let got = told(&answer)?;
-    assert_eq!(rt; got.0, 45);
-    assert_eq!(rt; got.1, 0);
-    assert_eq!(rt; got.2, 0);
+    tells(&rt, rt.alloc(), &mut files, 45, 2)?;
     Ok(())
 }
 
@@ -489,22 +495,15 @@ fn programs_up_to_the_limit(rt: HostRuntime) -> Result<(), Fail> {
     assert_eq!(rt; bytes.len(), 4194305);
     let most = &bytes.as_slice()[..4194304];
     let mut files = TreeFiles::new(rt.alloc());
-    files.put("app/a.go", most)?;
-    files.put("app/b.go", most)?;
-    files.put("app/c.go", most)?;
-    files.put("app/d.go", most)?;
+    for path in &["app/a.go", "app/b.go", "app/c.go", "app/d.go"] {
+        files.put(*path, most)?;
+    }
     files.put("app/e.go", bytes.as_slice())?;
-    let answer = load(rt.alloc(), &mut files, "app", "src");
-    assert_eq!(rt; told(&answer)?.0, 1, "16777216 bytes");
+    tells(&rt, rt.alloc(), &mut files, 1, 5)?;
     files.put("app/f.go", b"#")?;
     files.put("app/g.go", b"#")?;
     // Calls 0 to 5 were of the load before, calls 6 to 12 list and read up to f.go; call 13 would read g.go.
     files.fail(13, 0)?;
-    let answer = load(rt.alloc(), &mut files, "app", "src");
-    let got = told(&answer)?;
-    assert_eq!(rt; got.0, 46);
-    assert_eq!(rt; got.1, 0);
-    assert_eq!(rt; got.2, 0);
-    assert_eq!(rt; entries_of(&answer).len(), 6);
+    tells(&rt, rt.alloc(), &mut files, 46, 6)?;
     Ok(())
 }
