@@ -491,14 +491,15 @@ fn a_long_file_may_have_main(rt: HostRuntime) -> Result<(), Fail> {
 /// One byte more is too many, and nothing is read after it.
 #[test]
 fn programs_up_to_the_limit(rt: HostRuntime) -> Result<(), Fail> {
-    let bytes = hashes(rt.alloc(), 4194305)?;
-    assert_eq!(rt; bytes.len(), 4194305);
-    let most = &bytes.as_slice()[..4194304];
+    let most = hashes(rt.alloc(), 4194304)?;
+    assert_eq!(rt; most.len(), 4194304);
+    let past = hashes(rt.alloc(), 4194305)?;
+    assert_eq!(rt; past.len(), 4194305);
     let mut files = TreeFiles::new(rt.alloc());
     for path in &["app/a.go", "app/b.go", "app/c.go", "app/d.go"] {
-        files.put(*path, most)?;
+        files.put(*path, most.as_slice())?;
     }
-    files.put("app/e.go", bytes.as_slice())?;
+    files.put("app/e.go", past.as_slice())?;
     tells(&rt, rt.alloc(), &mut files, 1, 5)?;
     files.put("app/f.go", b"#")?;
     files.put("app/g.go", b"#")?;
