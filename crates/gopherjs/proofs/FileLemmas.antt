@@ -1,5 +1,5 @@
 -- What is read of a folder is determined: the entries, what each file is, the faults and the trees.
-use Rattle.std.proofs.Common.{◌≡◌, ◌<◌, ◌≤◌, ◌+◌, ◌++◌, ◌⊎◌, ◌||◌, List, [], ◌∷◌, ℕ, suc, Bool, true, false, length, map, refl, sym, ap, subst, ◌∙◌, append-nil, arith, inl, inr}
+use Rattle.std.proofs.Common.{◌≡◌, ◌<◌, ◌≤◌, ◌+◌, ◌++◌, ◌⊎◌, ◌||◌, List, [], ◌∷◌, ℕ, suc, Bool, true, false, length, map, refl, sym, ap, subst, ◌∙◌, append-nil, length-append, arith, inl, inr}
 use Rattle.std.specs.Prelude.{Option, Some, None, IfSome, Contains, All, nat_lt, option_map}
 use Rattle.std.specs.List.{AllByRecursion, sum_by, filter_map}
 use Rattle.std.proofs.lemmas.List.{nil_from_length, length-map}
@@ -54,11 +54,16 @@ same_entries tree folder (e ∷ es) (f ∷ fs) left named own own' there there' 
     let front : e ≡ f = same_entry tree folder e f heads own.0 own'.0 there.0 there'.0 in
     (rest.0, ap (λ (x : FileEntry). x ∷ fs) (sym front) ∙ ap (λ (xs : List FileEntry). e ∷ xs) rest.1)
 
+larger_of : (p q a b c d : ℕ) → (nat_lt p a || nat_lt q c) ≡ true → a ≤ b → c ≤ d → (nat_lt p b || nat_lt q d) ≡ true
+larger_of p q a b c d large more longer = grind (arith, nat_tests)
+
 -- more files are no smaller
 larger : (es rest : List FileEntry) → is_too_large es ≡ true → is_too_large (es ++ rest) ≡ true
 larger es rest large =
+    let size = sum_by (λ (e : FileEntry). length e.bytes) in
     let sum = sum_by-append (λ (e : FileEntry). length e.bytes) es rest in
-    grind (arith, nat_tests)
+    let count = length-append es rest in
+    larger_of program_limit count_limit (size es) (size (es ++ rest)) (length es) (length (es ++ rest)) large (omega (arith, sum)) (omega (arith, count))
 
 -- what is read of a folder is determined, where it is small
 pub same_files : (tree : Tree) (folder : List ℕ) (es fs : List FileEntry) → IsRead (Some tree) folder es → IsRead (Some tree) folder fs → is_too_large fs ≡ false → es ≡ fs
@@ -80,7 +85,7 @@ same_files tree folder es fs read read' small =
         let ends : left ≡ [] = enough e in
         let names : map (λ e. e.name) es ≡ map (λ e. e.name) fs = sym (append-nil _) ∙ ap (λ (ns : List (List ℕ)). map (λ e. e.name) es ++ ns) (sym ends) ∙ named in
         let count : length es ≡ length fs = sym (length-map es (λ (e : FileEntry). e.name)) ∙ ap length names ∙ length-map fs (λ (e : FileEntry). e.name) in
-        let none : rest ≡ [] = nil_from_length rest (let total = ap length split in grind arith) in
+        let none : rest ≡ [] = nil_from_length rest (let total = ap length split in let both = length-append es rest in omega (arith, total, both, count)) in
         sym (append-nil es) ∙ ap (λ (r : List FileEntry). es ++ r) (sym none) ∙ sym split
 
 -- each file has a tree

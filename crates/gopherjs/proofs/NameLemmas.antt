@@ -33,6 +33,7 @@ not_itself a below = not_both a a below below
 
 -- the front comes before the rest
 front_first : (x : List ℕ) (xs : List (List ℕ)) (y : List ℕ) → IsStrictlySortedBy (slice_cmp nat_cmp) (x ∷ xs) → Contains xs y → slice_cmp nat_cmp x y ≡ Less
+unfolding IsStrictlySortedBy
 front_first x xs y rises there = All-contains (λ z. slice_cmp nat_cmp x z ≡ Less) xs y (All-from_recursion (λ z. slice_cmp nat_cmp x z ≡ Less) xs rises.0) there
 
 -- the fronts of two such lists with the same members are the same
@@ -55,6 +56,7 @@ rest_in_rest x xs ys name rising goes there = by (front_or_rest x ys name (goes 
 
 -- two lists in byte order with the same members are the same
 pub same_names : (xs ys : List (List ℕ)) → IsStrictlySortedBy (slice_cmp nat_cmp) xs → IsStrictlySortedBy (slice_cmp nat_cmp) ys → ((name : List ℕ) → Contains xs name ↔ Contains ys name) → xs ≡ ys
+unfolding IsStrictlySortedBy
 same_names [] [] rising rising' same = refl
 same_names [] (y ∷ ys) rising rising' same = absurd (in_none y ((same y).1 (at_front y ys)))
 same_names (x ∷ xs) [] rising rising' same = absurd (in_none x ((same x).0 (at_front x xs)))

@@ -18,7 +18,7 @@ pub returns-in-Ok-clause-headline : goal.returns-in-Ok-clause-headline
 returns-in-Ok-clause-headline g c = headline _ c.in-Some.folder.now _ _ c.in-Some.ensures c.in-Ok.ensures
 
 pub returns-in-Err-clause-complete : goal.returns-in-Err-clause-complete
-returns-in-Err-clause-complete g c = completes c.derives_one_file.ensures _ c.in-Some.folder.now c.in-Err.refused c.refuse.result c.refuse.ensures.0 _ _ c.in-Some.ensures c.refuse.ensures.1 c.in-Err.ensures
+returns-in-Err-clause-complete g c = completes c.derives_one_file.ensures.one _ c.in-Some.folder.now c.in-Err.refused c.refuse.result c.refuse.ensures.0 _ _ c.in-Some.ensures c.refuse.ensures.1 c.in-Err.ensures
 
 pub refuse-requires : goal.refuse-requires
 refuse-requires g c = can_be_told c.in-Err.refused c.in-Some.folder.now _ _ c.in-Err.ensures
