@@ -1,13 +1,11 @@
 -- What the stages of a build say of the files.
-use Rattle.std.proofs.Common.{◌≡◌, ◌<◌, List, [], ◌∷◌, ℕ, length, refl, sym, ap, subst, ◌∙◌, inl, inr}
+use Rattle.std.proofs.Common.{◌≡◌, ◌<◌, List, ℕ, length, refl, sym, ap, subst, inl, inr}
 use Rattle.std.specs.Prelude.{Option, Some, None, IfSome, Result, Ok, Err}
 use Rattle.gj_base.specs.Tree.{Tree}
 use Rattle.gj_base.specs.Files.{FilesState, Stores}
 use Rattle.gj_base.specs.declared.files.StoreError.TheVariants.{Failed}
-use Rattle.go_syntax.specs.Tree as t
 use Rattle.go_load.specs.Root.{IsRead}
-use Rattle.go_load.specs.Readings.{trees_of}
-use Rattle.go_load.specs.Packages.{PackageTree, paths_view}
+use Rattle.go_load.specs.Packages.{paths_view}
 use Rattle.go_load.specs.Load.{Loads, ArePackages}
 use Rattle.go_load.specs.declared.sources.FileEntry.{FileEntry}
 use Rattle.go_load.specs.declared.packages.Packages.{Packages}
@@ -20,7 +18,7 @@ use Rattle.gopherjs.specs.Plain as p
 use Rattle.gopherjs.specs.Plain.{plain_main}
 use Rattle.gopherjs.specs.Printing.{program_of}
 use Rattle.gopherjs.specs.Answers.{out_file, HaveTrees, HoldsProgram, Builds}
-use Rattle.gopherjs.specs.Builds.{root_trees, main_of, IsCompiled, StoresMain, BuildsPackages, Refuses, CanBeTold}
+use Rattle.gopherjs.specs.Builds.{root_trees, main_of, StoresMain, BuildsPackages, Refuses, CanBeTold}
 use Rattle.gopherjs.specs.declared.build.Refused.{Refused}
 use Rattle.gopherjs.specs.declared.build.Refused.TheVariants as refused
 use Rattle.gopherjs.proofs.PlaceLemmas.{inside, short}

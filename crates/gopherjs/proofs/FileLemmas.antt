@@ -1,7 +1,7 @@
 -- What is read of a folder is determined: the entries, what each file is, the faults and the trees.
-use Rattle.std.proofs.Common.{◌≡◌, ◌<◌, ◌≤◌, ◌+◌, ◌++◌, ◌⊎◌, ◌||◌, List, [], ◌∷◌, ℕ, suc, Bool, true, false, length, map, refl, sym, ap, subst, ◌∙◌, append-nil, length-append, arith, inl, inr}
-use Rattle.std.specs.Prelude.{Option, Some, None, IfSome, Contains, All, nat_lt, option_map}
-use Rattle.std.specs.List.{AllByRecursion, sum_by, filter_map}
+use Rattle.std.proofs.Common.{◌≡◌, ◌≤◌, ◌+◌, ◌++◌, ◌||◌, List, [], ◌∷◌, ℕ, Bool, true, false, length, map, refl, sym, ap, subst, ◌∙◌, append-nil, length-append, arith}
+use Rattle.std.specs.Prelude.{Option, Some, nat_lt, option_map}
+use Rattle.std.specs.List.{AllByRecursion, sum_by}
 use Rattle.std.proofs.lemmas.List.{nil_from_length, length-map}
 use Rattle.std.proofs.lemmas.List.Elements.{recursion_from_All}
 use Rattle.std.proofs.lemmas.List.Sums.{sum_by-append}
@@ -9,10 +9,10 @@ use Rattle.std.proofs.lemmas.Bool.Decides.{nat_tests}
 use Rattle.gj_base.specs.Tree.{Tree, bytes_at, path_in}
 use Rattle.gj_base.specs.declared.fault.Fault.{Fault}
 use Rattle.go_syntax.specs.Tree as t
-use Rattle.go_syntax.specs.Token.{Token, TokenList, token_at}
+use Rattle.go_syntax.specs.Token.{TokenList, token_at}
 use Rattle.go_grammar.specs.Laws.{DerivesOneFile}
-use Rattle.go_load.specs.Root.{file_limit, program_limit, count_limit, Keeps, IsEntry, IsOfRoot, is_too_large, AreRead, IsRead}
-use Rattle.go_load.specs.Readings.{Reading, Long, Unlexed, Unparsed, Parsed, HasTree, IsReading, AreReadings, trees_of}
+use Rattle.go_load.specs.Root.{program_limit, count_limit, Keeps, IsEntry, IsOfRoot, is_too_large, AreRead, IsRead}
+use Rattle.go_load.specs.Readings.{Reading, Long, Unlexed, Unparsed, Parsed, HasTree, IsReading, AreReadings}
 use Rattle.go_load.specs.Faults.{lexical_faults, syntax_faults, load_faults, faults_of, faults_from, first_package, main_faults, first_of, stage_faults}
 use Rattle.go_load.specs.declared.sources.FileEntry.{FileEntry}
 use Rattle.gopherjs.proofs.NameLemmas.{same_names}

@@ -1,17 +1,17 @@
 -- A fault that is told stands in one of the files.
-use Rattle.std.proofs.Common.{◌≡◌, ◌<◌, ◌≤◌, ◌+◌, ◌++◌, ◌⊎◌, List, [], ◌∷◌, ℕ, Bool, true, false, length, refl, sym, ap, subst, ◌∙◌, arith, inl, inr}
+use Rattle.std.proofs.Common.{◌≡◌, ◌<◌, ◌≤◌, ◌+◌, ◌++◌, List, [], ◌∷◌, ℕ, Bool, true, false, length, refl, sym, ap, subst, arith, inl, inr}
 use Rattle.std.specs.Prelude.{Option, Some, None, Contains, All, not, codes, bytes_eq}
 use Rattle.std.specs.List.{AllByRecursion, list_any}
 use Rattle.std.proofs.lemmas.List.Elements.{All-from_recursion, All-contains, recursion_from_All}
 use Rattle.gj_base.specs.declared.place.Place.{Place}
 use Rattle.gj_base.specs.declared.fault.Fault.{Fault}
 use Rattle.go_syntax.specs.Tree as t
-use Rattle.go_load.specs.Root.{file_limit, IsOfRoot, IsRead}
+use Rattle.go_load.specs.Root.{file_limit, IsOfRoot}
 use Rattle.go_load.specs.Readings.{Reading, Long, Unlexed, Unparsed, Parsed, AreReadings}
-use Rattle.go_load.specs.Faults.{fault_in, may_have_main, lexical_faults, syntax_faults, load_faults, faults_of, tree_faults, faults_from, import_faults, fault_where, constraint_faults, first_package, main_faults, first_of, stage_faults, IsLeast}
+use Rattle.go_load.specs.Faults.{fault_in, may_have_main, lexical_faults, syntax_faults, load_faults, faults_of, tree_faults, faults_from, import_faults, fault_where, constraint_faults, first_package, main_faults, first_of, stage_faults}
 use Rattle.go_load.specs.Load.{IsFaultOf, large, staged}
 use Rattle.go_load.specs.declared.sources.FileEntry.{FileEntry}
-use Rattle.gopherjs.specs.Answers.{IsToldFault, AreUnbuilt}
+use Rattle.gopherjs.specs.Answers.{IsToldFault}
 
 -- all stand in files below this number
 AllBelow : ℕ → List Fault → Type 0

@@ -1,5 +1,5 @@
 -- The texts of statements, one by one.
-use Rattle.std.proofs.Common.{◌≡◌, ◌<◌, ◌≤◌, ◌+◌, ◌++◌, ℕ, zero, suc, List, [], ◌∷◌, Bool, true, false, not, length, drop, get_or, map, refl, sym, ap, ◌∙◌, arith, rules, drop-cons}
+use Rattle.std.proofs.Common.{◌≡◌, ◌<◌, ◌≤◌, ◌+◌, ◌++◌, ℕ, zero, suc, List, [], ◌∷◌, Bool, true, false, length, drop, get_or, map, refl, sym, ap, ◌∙◌, arith, rules, drop-cons}
 use Rattle.std.specs.Prelude.{Option, Some, None, if◌then◌else◌}
 use Rattle.go_syntax.specs.Tree as t
 use Rattle.go_syntax.specs.View.{file_view, decl_view, stmt_view, stmts_of, expr_view, exprs_of, param_view, params_view, joined}

@@ -1,5 +1,5 @@
 -- What the answers of a build say of the whole call.
-use Rattle.std.proofs.Common.{◌≡◌, ◌⊎◌, ◌<◌, ◌++◌, List, [], ◌∷◌, ℕ, true, false, length, map, refl, sym, ap, subst, ◌∙◌, append-nil, arith, inl, inr}
+use Rattle.std.proofs.Common.{◌≡◌, ◌⊎◌, ◌<◌, ◌++◌, List, [], ◌∷◌, ℕ, length, map, refl, sym, ap, subst, ◌∙◌, append-nil, arith, inl, inr}
 use Rattle.std.specs.Prelude.{Option, Some, None, IfSome, Contains, Err, option_map}
 use Rattle.gj_base.specs.Counts.{Rose}
 use Rattle.gj_base.specs.Tree.{Tree, with_file}

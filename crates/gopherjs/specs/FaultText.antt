@@ -1,5 +1,5 @@
 -- own: what is told of a fault.
-use Rattle.std.specs.Prelude.{◌+◌, ◌++◌, ◌==◌, ℕ, false, List, [], ◌∷◌, codes, decimal, slice_index_or, if◌then◌else◌}
+use Rattle.std.specs.Prelude.{◌++◌, ◌==◌, ℕ, false, List, [], ◌∷◌, codes, decimal, slice_index_or, if◌then◌else◌}
 use Rattle.gj_base.specs.LineColumn.{line_and_column}
 use Rattle.gj_base.specs.declared.fault.Fault.{Fault}
 use Rattle.go_load.specs.declared.sources.FileEntry.{FileEntry}

@@ -1,4 +1,4 @@
-use Rattle.std.proofs.Common.{◌≡◌, ◌+◌, ◌++◌, ◌∷◌, [], List, ℕ, sym, ap, ◌∙◌}
+use Rattle.std.proofs.Common.{◌+◌, ◌++◌, ◌∷◌, [], List, ℕ, sym, ap, ◌∙◌}
 use Rattle.gopherjs.proofs.PlainLemmas.{before, texts_from, passes, prints, refuses, ends, whole}
 use Rattle.gopherjs.proofs.plain.texts_of.Goals as goal
 

@@ -1,4 +1,4 @@
-use Rattle.std.proofs.Common.{List, ℕ, subst}
+use Rattle.std.proofs.Common.{ℕ, subst}
 use Rattle.gopherjs.specs.FaultText.{line_at}
 use Rattle.gopherjs.specs.Told.{Told}
 use Rattle.gopherjs.proofs.report.tell_in.Goals as goal
