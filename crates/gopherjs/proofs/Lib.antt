@@ -1,6 +1,8 @@
-pub mod PlainLemmas
-pub mod GoNamesLemmas
 pub mod ToldLemmas
 pub mod ProgramLemmas
+pub mod PlainLemmas
+pub mod NameLemmas
+pub mod FileLemmas
+pub mod PlaceLemmas
 pub mod BuildLemmas
 pub mod TopLemmas

@@ -1,101 +1,121 @@
--- Plain files have one reading.
-use Rattle.std.proofs.Common.{◌≡◌, ◌++◌, ◌+◌, ℕ, List, [], ◌∷◌, length, take, drop, Bool, true, false, cond, refl, sym, ap, subst, ◌∙◌, append_assoc, arith}
-use Rattle.std.proofs.Math.Numerals.{one-add}
-use Rattle.std.proofs.lemmas.List.{take-append-drop, append_cancel_left}
-use Rattle.std.proofs.Math.Seq.{drop-append_seam}
-use Rattle.std.specs.Prelude.{IsTrue, flat_map}
-use Rattle.std.specs.List.{AllByRecursion, prefix_len}
-use Rattle.gopherjs.specs.Plain.{head, close, open_line, shut_line, is_plain_byte, IsPlainText, plain_line, IsPlain}
+-- The texts of statements, one by one.
+use Rattle.std.proofs.Common.{◌≡◌, ◌<◌, ◌≤◌, ◌+◌, ◌++◌, ℕ, zero, suc, List, [], ◌∷◌, Bool, true, false, length, drop, get_or, map, refl, sym, ap, ◌∙◌, arith, rules, drop-cons}
+use Rattle.std.specs.Prelude.{Option, Some, None, if◌then◌else◌}
+use Rattle.go_syntax.specs.Tree as t
+use Rattle.go_syntax.specs.View.{file_view, decl_view, stmt_view, stmts_of, expr_view, exprs_of, param_view, params_view, joined}
+use Rattle.go_syntax.specs.declared.tree.Decl.{Decl}
+use Rattle.go_syntax.specs.declared.tree.Expr.{Expr}
+use Rattle.go_syntax.specs.declared.tree.File.{File}
+use Rattle.go_syntax.specs.declared.tree.Param.{Param, fold_out-Param}
+use Rattle.go_syntax.specs.declared.tree.Params.{Params, out-Params, fold_out-Params}
+use Rattle.go_syntax.specs.declared.tree.Stmt.{Stmt}
+use Rattle.gopherjs.specs.Plain.{Main, has_none, argument_text, call_in, is_empty, printed_text, with_text, texts_of, main_in, plain_main}
 
--- a text ends at the first quote
-pub quote_splits : (t u x y : List ℕ) → IsPlainText t → IsPlainText u → t ++ 34 ∷ x ≡ u ++ 34 ∷ y → (t ≡ u) × (x ≡ y)
-quote_splits [] [] x y p q e = (refl, cc)
-quote_splits [] (b ∷ u) x y p q e =
-    let same : 34 ≡ b = cc in
-    let bad : false ≡ true = subst (λ c. IsTrue (is_plain_byte c)) (sym same) q.0 in cc
-quote_splits (b ∷ t) [] x y p q e =
-    let same : b ≡ 34 = cc in
-    let bad : false ≡ true = subst (λ c. IsTrue (is_plain_byte c)) same p.0 in cc
-quote_splits (b ∷ t) (c ∷ u) x y p q e =
-    let heads : b ≡ c = cc in
-    let tails : t ++ 34 ∷ x ≡ u ++ 34 ∷ y = cc in
-    let rest = quote_splits t u x y p.1 q.1 tails in
-    let same : t ≡ u = rest.0 in
-    (cc, rest.1)
+-- texts before others, where all are there
+abbrev pub before : List (List ℕ) → Option (List (List ℕ)) → Option (List (List ℕ))
+before [] others = others
+before (text ∷ texts) others = with_text (Some text) (before texts others)
 
--- the bytes before the first that isn't plain are a plain text
-pub plain_front : (bs : List ℕ) → IsPlainText (take (prefix_len is_plain_byte bs) bs)
-plain_front [] = tt
-plain_front (b ∷ bs) = by (is_plain_byte b) refl (plain_front bs)
-  where
-    by : (r : Bool) → is_plain_byte b ≡ r → IsPlainText (take (prefix_len is_plain_byte bs) bs) → IsPlainText (take (cond r (1 + prefix_len is_plain_byte bs) 0) (b ∷ bs))
-    by true e rest = rw one-add (e, rest)
-    by false e rest = tt
+before_none : (texts : List (List ℕ)) → before texts None ≡ None
+before_none [] = refl
+before_none (text ∷ texts) = ap (λ (o : Option (List (List ℕ))). with_text (Some text) o) (before_none texts)
 
--- a plain text before a quote is all of them
-pub prefix_len-quote : (t x : List ℕ) → IsPlainText t → prefix_len is_plain_byte (t ++ 34 ∷ x) ≡ length t
-prefix_len-quote [] x p = refl
-prefix_len-quote (b ∷ t) x p = by (is_plain_byte b) p.0 (prefix_len-quote t x p.1)
-  where
-    by : (r : Bool) → r ≡ true → prefix_len is_plain_byte (t ++ 34 ∷ x) ≡ length t → cond r (1 + prefix_len is_plain_byte (t ++ 34 ∷ x)) 0 ≡ length (b ∷ t)
-    by true e rest = omega arith
-    by false e rest = cc
+before_nothing : (texts : List (List ℕ)) → before texts (Some []) ≡ Some texts
+before_nothing [] = refl
+before_nothing (text ∷ texts) = ap (λ (o : Option (List (List ℕ))). with_text (Some text) o) (before_nothing texts)
 
--- a line that is split at the end of its plain bytes
-pub split_line : (opened front shut next : List ℕ) (n : ℕ) → n ≡ prefix_len is_plain_byte opened → front ≡ take n opened → shut ≡ drop n opened → shut ≡ shut_line ++ next
-    → IsPlainText front × (opened ≡ front ++ shut_line ++ next)
-split_line opened front shut next n is_n is_front is_shut closed = (
-  rw (is_front, is_n) (plain_front opened),
-  (let joined : front ++ shut ≡ opened = rw (is_front, is_shut) (take-append-drop n opened) in
-      sym joined ∙ ap (λ z. front ++ z) closed ∙ sym (append_assoc front shut_line next)),
-)
+before_one : (texts : List (List ℕ)) (text : List ℕ) (others : Option (List (List ℕ))) → before (texts ++ text ∷ []) others ≡ before texts (with_text (Some text) others)
+before_one [] text others = refl
+before_one (first ∷ texts) text others = ap (λ (o : Option (List (List ℕ))). with_text (Some first) o) (before_one texts text others)
 
--- where the plain bytes aren't closed, there is no line
-pub no_line : (opened shut : List ℕ) (n : ℕ) → n ≡ prefix_len is_plain_byte opened → shut ≡ drop n opened → ((rest : List ℕ) → shut ≡ shut_line ++ rest → ⊥)
-    → (text next : List ℕ) → IsPlainText text → opened ≡ text ++ shut_line ++ next → ⊥
-no_line opened shut n is_n is_shut unclosed text next plain e =
-    let whole : opened ≡ text ++ (shut_line ++ next) = e ∙ append_assoc text shut_line next in
-    let count : n ≡ length text = is_n ∙ ap (prefix_len is_plain_byte) whole ∙ prefix_len-quote text (41 ∷ 10 ∷ next) plain in
-    unclosed next (is_shut ∙ ap (λ z. drop z opened) count ∙ ap (drop (length text)) whole ∙ drop-append_seam text (shut_line ++ next))
+-- the texts of the statements from an index on
+pub texts_from : List Stmt → ℕ → Option (List (List ℕ))
+texts_from stmts i = texts_of (stmts_of (map stmt_view (drop i stmts)))
 
--- two readings of what follows the lines that both have
-pub remaining_lines : (ts us : List (List ℕ)) (rest : List ℕ) → AllByRecursion IsPlainText ts → AllByRecursion IsPlainText us
-    → flat_map plain_line ts ++ rest ≡ flat_map plain_line us ++ close
-    → (vs : List (List ℕ)) × AllByRecursion IsPlainText vs × (rest ≡ flat_map plain_line vs ++ close)
-remaining_lines [] us rest p q e = (us, q, e)
-remaining_lines (t ∷ ts) [] rest p q e = absurd (cc)
-remaining_lines (t ∷ ts) (u ∷ us) rest p q e =
-    let split = quote_splits t u (41 ∷ 10 ∷ (flat_map plain_line ts ++ rest)) (41 ∷ 10 ∷ (flat_map plain_line us ++ close)) p.0 q.0 (opened t u ts us rest e) in
-    let both = split.1 in
-    remaining_lines ts us rest p.1 q.1 (cc)
-  where
-    line_then : (t : List ℕ) (ts : List (List ℕ)) (rest : List ℕ) → flat_map plain_line (t ∷ ts) ++ rest ≡ open_line ++ (t ++ (34 ∷ 41 ∷ 10 ∷ (flat_map plain_line ts ++ rest)))
-    line_then t ts rest = simp append_assoc
+-- those of one statement more
+next : (stmts : List Stmt) (i : ℕ) (s : Stmt) → i < length stmts → s ≡ get_or stmts i s
+    → texts_from stmts i ≡ (if is_empty (stmt_view s) then texts_from stmts (i + 1) else with_text (printed_text (stmt_view s)) (texts_from stmts (i + 1)))
+unfolding texts_from
+next stmts i s h e =
+    let one : suc i ≡ i + 1 = omega arith in
+    ap (λ (ss : List Stmt). texts_of (stmts_of (map stmt_view ss))) (drop-cons stmts i s h ∙ ap (λ (x : Stmt). x ∷ drop (suc i) stmts) (sym e))
+    ∙ ap (λ (n : ℕ). if is_empty (stmt_view s) then texts_of (stmts_of (map stmt_view (drop n stmts))) else with_text (printed_text (stmt_view s)) (texts_of (stmts_of (map stmt_view (drop n stmts))))) one
 
-    opened : (t u : List ℕ) (ts us : List (List ℕ)) (rest : List ℕ) → flat_map plain_line (t ∷ ts) ++ rest ≡ flat_map plain_line (u ∷ us) ++ close
-        → t ++ (34 ∷ 41 ∷ 10 ∷ (flat_map plain_line ts ++ rest)) ≡ u ++ (34 ∷ 41 ∷ 10 ∷ (flat_map plain_line us ++ close))
-    opened t u ts us rest e =
-        let whole : open_line ++ (t ++ (34 ∷ 41 ∷ 10 ∷ (flat_map plain_line ts ++ rest))) ≡ open_line ++ (u ++ (34 ∷ 41 ∷ 10 ∷ (flat_map plain_line us ++ close))) = sym (line_then t ts rest) ∙ e ∙ line_then u us close in
-        cc
+-- an empty statement is passed over
+pub passes : (stmts : List Stmt) (i : ℕ) (s : Stmt) (texts : List (List ℕ)) → i < length stmts → s ≡ get_or stmts i s → is_empty (stmt_view s) ≡ true → before texts (texts_from stmts i) ≡ before texts (texts_from stmts (i + 1))
+passes stmts i s texts h e empty =
+    ap (λ (o : Option (List (List ℕ))). before texts o)
+    (next stmts i s h e ∙ ap (λ (b : Bool). if b then texts_from stmts (i + 1) else with_text (printed_text (stmt_view s)) (texts_from stmts (i + 1))) empty)
 
--- what follows a line's beginning
-pub cancel_open : (rest opened tail : List ℕ) → rest ≡ open_line ++ opened → rest ≡ open_line ++ tail → opened ≡ tail
-cancel_open rest opened tail d e = cc
+-- a statement that prints a text adds it
+pub prints : (stmts : List Stmt) (i : ℕ) (s : Stmt) (texts : List (List ℕ)) (text : List ℕ) → i < length stmts → s ≡ get_or stmts i s → is_empty (stmt_view s) ≡ false → Some text ≡ printed_text (stmt_view s)
+    → before texts (texts_from stmts i) ≡ before (texts ++ text ∷ []) (texts_from stmts (i + 1))
+prints stmts i s texts text h e empty printed =
+    ap (λ (o : Option (List (List ℕ))). before texts o)
+    (next stmts i s h e ∙ ap (λ (b : Bool). if b then texts_from stmts (i + 1) else with_text (printed_text (stmt_view s)) (texts_from stmts (i + 1))) empty
+    ∙ ap (λ (o : Option (List ℕ)). with_text o (texts_from stmts (i + 1))) (sym printed))
+    ∙ sym (before_one texts text (texts_from stmts (i + 1)))
 
--- a file without the head isn't plain
-pub unheaded : (file : List ℕ) → ((rest : List ℕ) → file ≡ head ++ rest → ⊥) → (texts : List (List ℕ)) → IsPlain file texts → ⊥
-unheaded file none texts plain = none (flat_map plain_line texts ++ close) (plain.written ∙ append_assoc head (flat_map plain_line texts) close)
+-- where a statement is neither, there are no texts
+pub refuses : (stmts : List Stmt) (i : ℕ) (s : Stmt) (texts : List (List ℕ)) → i < length stmts → s ≡ get_or stmts i s → is_empty (stmt_view s) ≡ false → None ≡ printed_text (stmt_view s)
+    → before texts (texts_from stmts i) ≡ None
+refuses stmts i s texts h e empty printed =
+    ap (λ (o : Option (List (List ℕ))). before texts o)
+    (next stmts i s h e ∙ ap (λ (b : Bool). if b then texts_from stmts (i + 1) else with_text (printed_text (stmt_view s)) (texts_from stmts (i + 1))) empty
+    ∙ ap (λ (o : Option (List ℕ)). with_text o (texts_from stmts (i + 1))) (sym printed))
+    ∙ before_none texts
 
--- a file whose lines break off isn't plain
-pub broken_off : (file rest : List ℕ) (ts : List (List ℕ)) → AllByRecursion IsPlainText ts → file ≡ head ++ flat_map plain_line ts ++ rest → (rest ≡ close → ⊥)
-    → ((text next : List ℕ) → IsPlainText text → rest ≡ plain_line text ++ next → ⊥)
-    → (texts : List (List ℕ)) → IsPlain file texts → ⊥
-broken_off file rest ts p read not_closed no_line_there texts plain =
-    let joined : head ++ (flat_map plain_line ts ++ rest) ≡ head ++ (flat_map plain_line texts ++ close) =
-    sym (append_assoc head (flat_map plain_line ts) rest) ∙ sym read ∙ plain.written ∙ append_assoc head (flat_map plain_line texts) close in
-    let left = remaining_lines ts texts rest p plain.plain (append_cancel_left head _ _ joined) in
-    by left.0 left.1 left.2
-  where
-    by : (vs : List (List ℕ)) → AllByRecursion IsPlainText vs → rest ≡ flat_map plain_line vs ++ close → ⊥
-    by [] all e = not_closed e
-    by (v ∷ vs) all e = no_line_there v (flat_map plain_line vs ++ close) all.0 (e ∙ append_assoc (plain_line v) (flat_map plain_line vs) close)
+past_end : (stmts : List Stmt) (i : ℕ) → length stmts ≤ i → map stmt_view (drop i stmts) ≡ []
+past_end [] zero h = refl
+past_end [] (suc i) h = refl
+past_end (s ∷ ss) zero h = absurd (omega arith)
+past_end (s ∷ ss) (suc i) h = past_end ss i (omega arith)
+
+-- at the end the texts are whole
+pub ends : (stmts : List Stmt) (i : ℕ) (texts : List (List ℕ)) → length stmts ≤ i → before texts (texts_from stmts i) ≡ Some texts
+unfolding texts_from
+ends stmts i texts h = ap (λ (ss : List t.Stmt). before texts (texts_of (stmts_of ss))) (past_end stmts i h) ∙ before_nothing texts
+
+-- those of all
+pub whole : (stmts : List Stmt) → texts_from stmts 0 ≡ texts_of (stmts_of (map stmt_view stmts))
+unfolding texts_from
+whole stmts = refl
+
+-- one parameter before others
+some_at : (p : Param) (rest : t.Params) → false ≡ has_none (param_view p rest)
+some_at p rest = search (rules, fold_out-Param)
+
+joined_some : (ps : List Param) → 1 ≤ length ps → false ≡ has_none (joined (map param_view ps) t.NoParams)
+joined_some [] h = absurd (omega (arith, h))
+joined_some (p ∷ ps) h = some_at p (joined (map param_view ps) t.NoParams)
+
+params_at : (params : Params) (ps : List Param) → ps ≡ (out-Params params).items.items → (params_view params).1 ≡ joined (map param_view ps) t.NoParams
+params_at params ps e = search (rules, fold_out-Params, e)
+
+-- parameters where there is one
+pub some_params : (params : Params) (ps : List Param) → ps ≡ (out-Params params).items.items → 1 ≤ length ps → false ≡ has_none (params_view params).1
+some_params params ps e h = joined_some ps h ∙ ap has_none (sym (params_at params ps e))
+
+-- two arguments are not one string literal
+pub two_arguments : (es : List Expr) → 2 ≤ length es → (let none : Option (List ℕ) = None in none) ≡ argument_text (exprs_of (map expr_view es))
+two_arguments [] h = absurd (omega (arith, h))
+two_arguments (e ∷ []) h = absurd (omega (arith, h))
+two_arguments (e ∷ f ∷ es) h = refl
+
+-- two expressions are not one call
+pub two_calls : (es : List Expr) → 2 ≤ length es → (let none : Option (List ℕ) = None in none) ≡ call_in (exprs_of (map expr_view es))
+two_calls [] h = absurd (omega (arith, h))
+two_calls (e ∷ []) h = absurd (omega (arith, h))
+two_calls (e ∷ f ∷ es) h = refl
+
+-- two declarations are not one `main`
+pub two_decls : (ds : List Decl) → 2 ≤ length ds → (let none : Option Main = None in none) ≡ main_in (map decl_view ds)
+two_decls [] h = absurd (omega (arith, h))
+two_decls (d ∷ []) h = absurd (omega (arith, h))
+two_decls (d ∷ e ∷ ds) h = refl
+
+-- two files are not one
+pub two_files : (fs : List File) → 2 ≤ length fs → (let none : Option Main = None in none) ≡ plain_main (map file_view fs)
+two_files [] h = absurd (omega (arith, h))
+two_files (f ∷ []) h = absurd (omega (arith, h))
+two_files (f ∷ g ∷ fs) h = refl

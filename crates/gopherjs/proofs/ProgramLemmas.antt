@@ -2,7 +2,7 @@
 use Rattle.std.proofs.Common.{◌≡◌, ◌++◌, List, [], ◌∷◌, ℕ, map, refl, sym, ap, ◌∙◌, append-nil}
 use Rattle.go_core.specs.Core.{Stmt, Stmts, stmt}
 use Rattle.go_core.specs.View.{stmts_of}
-use Rattle.gopherjs.specs.Plain.{print_line, print_lines}
+use Rattle.gopherjs.specs.Printing.{print_line, print_lines}
 
 pub stmts_of-print_lines : (texts : List (List ℕ)) → stmts_of (map print_line texts) ≡ print_lines texts
 stmts_of-print_lines [] = refl

@@ -1,5 +1,5 @@
 -- A line that is written in pieces.
-use Rattle.std.proofs.Common.{◌≡◌, ◌++◌, ◌<◌, List, ◌∷◌, ℕ, suc, true, length, take, drop, get_or, refl, sym, ap, subst, ◌∙◌, append_assoc}
+use Rattle.std.proofs.Common.{◌≡◌, ◌++◌, ◌<◌, List, [], ◌∷◌, ℕ, suc, true, length, take, drop, get_or, refl, sym, ap, subst, ◌∙◌, append_assoc}
 use Rattle.std.specs.Prelude.{Result, Ok, Err, is_err, flat_map, Option, Some, None, option_map}
 use Rattle.std.proofs.Common.{inl, inr}
 use Rattle.gj_base.specs.Sink.{SinkState, appended, Writes}
@@ -10,6 +10,7 @@ use Rattle.std.proofs.lemmas.List.{take-append-drop}
 use Rattle.std.proofs.Math.Seq.{drop-cons}
 use Rattle.std.proofs.lemmas.Grind.{flat_map-append}
 use Rattle.gopherjs.specs.Told.{CutShort, Told}
+use Rattle.gopherjs.specs.FaultText.{line_of}
 
 -- a piece after a piece
 pub appended_twice : (bytes : Option (List ℕ)) (a b : List ℕ) → option_map (λ bs. bs ++ b) (option_map (λ bs. bs ++ a) bytes) ≡ option_map (λ bs. bs ++ (a ++ b)) bytes
@@ -45,3 +46,7 @@ pub cut_at : (pieces : List (Bor (List ℕ))) (i : ℕ) (d : Bor (List ℕ)) →
 cut_at pieces i d h r old mid new e is w =
     let there = subst (λ (m : SinkState). Writes r (get_or pieces i d).now m new) is w in
     inr (subst (λ (line : List ℕ). CutShort line old new) (sym (split_at pieces i d h)) (cut r _ _ _ old new e there))
+
+-- the pieces of a line that tells of a place
+pub line_of_pieces : (name line column text : List ℕ) → name ++ (58 ∷ line ++ (58 ∷ column ++ (58 ∷ 32 ∷ text ++ (10 ∷ [])))) ≡ line_of name line column text
+line_of_pieces name line column text = simp append_assoc

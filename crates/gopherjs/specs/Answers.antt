@@ -1,49 +1,61 @@
 -- own: what a build comes to, answer by answer, over the files as they were and as they are left.
-use Rattle.std.specs.Prelude.{◌≡◌, ◌⊎◌, List, [], ◌∷◌, ℕ, codes, Some, IfSome, Result, Ok, Err}
-use Rattle.gj_base.specs.Tree.{Tree, bytes_at, path_in}
-use Rattle.gj_base.specs.Files.{FilesState, ReadFailed, Stores}
+use Rattle.std.specs.Prelude.{◌≡◌, ◌⊎◌, ◌<◌, List, [], ℕ, false, codes, length, Some, None, IfSome, Result, Ok, Err}
+use Rattle.gj_base.specs.Tree.{Tree}
+use Rattle.gj_base.specs.Files.{FilesState, Stores}
+use Rattle.gj_base.specs.declared.fault.Fault.{Fault}
 use Rattle.gj_base.specs.declared.files.StoreError.TheVariants.{Failed}
+use Rattle.go_syntax.specs.Tree as t
+use Rattle.go_load.specs.Root.{is_too_large, IsRead}
+use Rattle.go_load.specs.Readings.{Reading, AreReadings, trees_of}
+use Rattle.go_load.specs.Faults.{fault_in, stage_faults}
+use Rattle.go_load.specs.Load.{IsFaultOf, FailsToRead}
+use Rattle.go_load.specs.declared.sources.FileEntry.{FileEntry}
 use Rattle.go_core.specs.Core.{Program}
 use Rattle.js_tree.specs.Script.{ScriptTree}
 use Rattle.js_tree.specs.Printed.{plain}
 use Rattle.js_emit.specs.Faithful.{Faithful}
-use Rattle.gopherjs.specs.Plain.{IsPlain, program_printing}
-use Rattle.gopherjs.specs.GoFiles.{AreGoFiles}
+use Rattle.gopherjs.specs.Plain.{Main, plain_main}
+use Rattle.gopherjs.specs.Printing.{program_of}
 use Rattle.gopherjs.specs.declared.build.Refused.{Refused}
-use Rattle.gopherjs.specs.declared.build.Refused.TheVariants.{ReadFault, WriteFault, NoMemory, Unbuilt}
+use Rattle.gopherjs.specs.declared.build.Refused.TheVariants as refused
 
 -- where the script is stored
 abbrev pub out_file : List ℕ
 out_file = codes "out.js"
 
--- the folder holds this program: its one `.go` file is plain
+-- the files have no fault of a stage, and these are their trees
+pub record HaveTrees (entries : List FileEntry) (trees : List t.File) : Type 0 where
+  pub some : 0 < length entries
+  pub small : is_too_large entries ≡ false
+  pub readings : List Reading
+  pub are : AreReadings 0 entries readings
+  pub none : stage_faults readings ≡ []
+  pub all : trees ≡ trees_of readings
+
+-- the folder holds this program: its `.go` files have no fault, and their package is plain
 pub record HoldsProgram (tree : Tree) (folder : List ℕ) (program : Program) : Type 0 where
-  pub name : List ℕ
-  pub bytes : List ℕ
-  pub texts : List (List ℕ)
-  pub files : AreGoFiles tree folder (name ∷ [])
-  pub there : bytes_at tree (path_in folder name) ≡ Some bytes
-  pub plain : IsPlain bytes texts
-  pub is : program ≡ program_printing texts
+  pub entries : List FileEntry
+  pub read : IsRead (Some tree) folder entries
+  pub trees : List t.File
+  pub have : HaveTrees entries trees
+  pub main : Main
+  pub plain : plain_main trees ≡ Some main
+  pub is : program ≡ program_of main
 
--- the folder has several `.go` files, and this is the second by name
-pub record IsSecondFile (tree : Tree) (folder : List ℕ) (number : ℕ) (name : List ℕ) : Type 0 where
-  pub first : List ℕ
-  pub others : List (List ℕ)
-  pub files : AreGoFiles tree folder (first ∷ name ∷ others)
-  pub counted : number ≡ 1
+-- F0, at the start of the root's first file
+abbrev pub unbuilt_fault : Fault
+unbuilt_fault = fault_in 0 0 0
 
--- the folder's one `.go` file is not plain
-pub record IsNotPlain (tree : Tree) (folder : List ℕ) (number : ℕ) (name : List ℕ) : Type 0 where
-  pub bytes : List ℕ
-  pub files : AreGoFiles tree folder (name ∷ [])
-  pub there : bytes_at tree (path_in folder name) ≡ Some bytes
-  pub unlike : (texts : List (List ℕ)) → IsPlain bytes texts → ⊥
-  pub counted : number ≡ 0
+-- the files have no fault of a stage, but their package is not plain
+pub record AreUnbuilt (entries : List FileEntry) (fault : Fault) : Type 0 where
+  pub trees : List t.File
+  pub have : HaveTrees entries trees
+  pub unlike : plain_main trees ≡ None
+  pub is : fault ≡ unbuilt_fault
 
--- a form that isn't built yet stands at the start of this file
-abbrev pub IsUnbuilt : Tree → List ℕ → ℕ → List ℕ → Type 0
-IsUnbuilt tree folder number name = IsSecondFile tree folder number name ⊎ IsNotPlain tree folder number name
+-- the fault that is told of these files: the least of the first stage that has one, or else F0
+abbrev pub IsToldFault : List FileEntry → Fault → Type 0
+IsToldFault entries fault = IsFaultOf entries fault ⊎ AreUnbuilt entries fault
 
 -- the script is faithful to the program that the folder holds, where the tree is told
 abbrev pub Compiles : List ℕ → FilesState → ScriptTree → Type 0
@@ -57,17 +69,13 @@ StoresScript folder old new = (s : ScriptTree) × Compiles folder old s × Store
 abbrev pub FailsToStore : List ℕ → FilesState → FilesState → Type 0
 FailsToStore folder old new = (s : ScriptTree) × Compiles folder old s × Stores (Err Failed) out_file (plain s) old new
 
--- a read failed, or the folder has no `.go` file
-abbrev pub FailsToRead : List ℕ → FilesState → FilesState → Type 0
-FailsToRead folder old new = ReadFailed old new ⊎ ((new ≡ old) × IfSome old.tree (λ tree. AreGoFiles tree folder []))
-
--- a form that isn't built yet stands at the start of the file with this number and name
-abbrev pub FindsUnbuilt : ℕ → List ℕ → List ℕ → FilesState → FilesState → Type 0
-FindsUnbuilt number name folder old new = (new ≡ old) × IfSome old.tree (λ tree. IsUnbuilt tree folder number name)
+-- all files of the folder were read, these are their entries, and they have this fault
+abbrev pub FindsFault : Fault → List FileEntry → List ℕ → FilesState → FilesState → Type 0
+FindsFault fault entries folder old new = (new ≡ old) × (0 < length entries) × IsRead old.tree folder entries × IsToldFault entries fault
 
 abbrev pub Builds : Result (Unit {0}) Refused → List ℕ → FilesState → FilesState → Type 0
 Builds (Ok _) folder old new = StoresScript folder old new
-Builds (Err ReadFault) folder old new = FailsToRead folder old new
-Builds (Err WriteFault) folder old new = FailsToStore folder old new
-Builds (Err NoMemory) folder old new = new ≡ old
-Builds (Err (Unbuilt number name)) folder old new = FindsUnbuilt number name folder old new
+Builds (Err (refused.Fault fault entries)) folder old new = FindsFault fault entries folder old new
+Builds (Err refused.ReadFault) folder old new = FailsToRead folder old new
+Builds (Err refused.WriteFault) folder old new = FailsToStore folder old new
+Builds (Err refused.NoMemory) folder old new = new ≡ old

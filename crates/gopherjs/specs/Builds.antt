@@ -1,46 +1,65 @@
 -- The stages of a build, answer by answer; only private clauses cite this file.
-use Rattle.std.specs.Prelude.{◌≡◌, List, ℕ, Option, Some, None, IfSome, Result, Ok, Err, All, Vec}
-use Rattle.std.specs.declared.alloc.Global.{Global}
-use Rattle.gj_base.specs.Tree.{Tree, bytes_at, path_in, IsName, AreNamesIn}
+use Rattle.std.specs.Prelude.{◌≡◌, ◌<◌, ◌≤◌, List, [], ◌∷◌, ℕ, Option, Some, None, All, Result, Ok, Err, length}
 use Rattle.gj_base.specs.Files.{FilesState, Stores}
 use Rattle.gj_base.specs.declared.files.StoreError.TheVariants.{Failed}
+use Rattle.go_syntax.specs.Tree as t
+use Rattle.go_load.specs.Root.{file_limit}
+use Rattle.go_load.specs.Packages.{PackageTree, paths_view}
+use Rattle.go_load.specs.declared.packages.Packages.{Packages}
+use Rattle.go_load.specs.declared.packages.LoadRefusal.{LoadRefusal}
+use Rattle.go_load.specs.declared.packages.LoadRefusal.TheVariants as load
 use Rattle.js_tree.specs.Script.{ScriptTree}
 use Rattle.js_tree.specs.Printed.{plain}
 use Rattle.js_emit.specs.Faithful.{Faithful}
-use Rattle.gopherjs.specs.Plain.{IsPlain, program_printing}
-use Rattle.gopherjs.specs.Answers.{out_file, FailsToRead}
+use Rattle.gopherjs.specs.Plain as p
+use Rattle.gopherjs.specs.Plain.{plain_main}
+use Rattle.gopherjs.specs.Printing.{program_of}
+use Rattle.gopherjs.specs.Answers.{out_file, unbuilt_fault}
+use Rattle.gopherjs.specs.declared.plain.Main.{Main}
 use Rattle.gopherjs.specs.declared.build.Refused.{Refused}
-use Rattle.gopherjs.specs.declared.build.Refused.TheVariants.{ReadFault, WriteFault, NoMemory, Unbuilt}
+use Rattle.gopherjs.specs.declared.build.Refused.TheVariants as refused
 
--- the names of the files in a folder
-abbrev pub ListsRoot : Result (Vec (List ℕ) Global) Refused → List ℕ → FilesState → FilesState → Type 0
-ListsRoot (Ok names) folder old new = (new ≡ old) × All IsName names.items × IfSome old.tree (λ tree. AreNamesIn tree folder names.items)
-ListsRoot (Err ReadFault) folder old new = FailsToRead folder old new
-ListsRoot (Err WriteFault) folder old new = ⊥
-ListsRoot (Err NoMemory) folder old new = new ≡ old
-ListsRoot (Err (Unbuilt number name)) folder old new = ⊥
+abbrev pub main_view : Main → p.Main
+main_view main = record { place = main.place; texts = main.texts.items }
 
--- the file has bytes with this property
-abbrev pub HasBytes : (List ℕ → Type 0) → List ℕ → List ℕ → Tree → Type 0
-HasBytes P folder name tree = (bytes : List ℕ) × (bytes_at tree (path_in folder name) ≡ Some bytes) × P bytes
+-- the trees of the first package, which is the root
+abbrev pub root_trees : List (List ℕ × PackageTree) → List t.File
+root_trees [] = []
+root_trees (root ∷ others) = root.1.files
 
--- the texts that a file prints, where it is plain
-abbrev pub ReadsFile : Result (Option (Vec (List ℕ) Global)) Refused → List ℕ → List ℕ → FilesState → FilesState → Type 0
-ReadsFile (Ok (Some texts)) folder name old new = (new ≡ old) × IfSome old.tree (HasBytes (λ bytes. IsPlain bytes texts.items) folder name)
-ReadsFile (Ok None) folder name old new = (new ≡ old) × IfSome old.tree (HasBytes (λ bytes. (texts : List (List ℕ)) → IsPlain bytes texts → ⊥) folder name)
-ReadsFile (Err ReadFault) folder name old new = FailsToRead folder old new
-ReadsFile (Err WriteFault) folder name old new = ⊥
-ReadsFile (Err NoMemory) folder name old new = new ≡ old
-ReadsFile (Err (Unbuilt number other)) folder name old new = ⊥
+-- the root's `main`, where it is plain
+abbrev pub main_of : Packages → Option p.Main
+main_of packages = plain_main (root_trees (paths_view packages.packages))
 
--- the text of a script that is faithful to the program that prints these texts
-abbrev pub IsCompiled : List (List ℕ) → List ℕ → Type 0
-IsCompiled texts text = (s : ScriptTree) × (text ≡ plain s) × Faithful s (program_printing texts)
+-- the text of a script that is faithful to the program of this `main`
+abbrev pub IsCompiled : p.Main → List ℕ → Type 0
+IsCompiled main text = (s : ScriptTree) × (text ≡ plain s) × Faithful s (program_of main)
 
 -- such a text is stored
-abbrev pub StoresProgram : Result (Unit {0}) Refused → List (List ℕ) → FilesState → FilesState → Type 0
-StoresProgram (Ok _) texts old new = (text : List ℕ) × IsCompiled texts text × Stores (Ok tt) out_file text old new
-StoresProgram (Err ReadFault) texts old new = ⊥
-StoresProgram (Err WriteFault) texts old new = (text : List ℕ) × IsCompiled texts text × Stores (Err Failed) out_file text old new
-StoresProgram (Err NoMemory) texts old new = new ≡ old
-StoresProgram (Err (Unbuilt number name)) texts old new = ⊥
+abbrev pub StoresMain : Result (Unit {0}) Refused → p.Main → FilesState → FilesState → Type 0
+StoresMain (Ok _) main old new = (text : List ℕ) × IsCompiled main text × Stores (Ok tt) out_file text old new
+StoresMain (Err (refused.Fault fault entries)) main old new = ⊥
+StoresMain (Err refused.ReadFault) main old new = ⊥
+StoresMain (Err refused.WriteFault) main old new = (text : List ℕ) × IsCompiled main text × Stores (Err Failed) out_file text old new
+StoresMain (Err refused.NoMemory) main old new = new ≡ old
+
+-- packages without a fault come to this: the script of the root's `main` is stored, where it is plain
+abbrev pub BuildsPackages : Result (Unit {0}) Refused → Packages → FilesState → FilesState → Type 0
+BuildsPackages (Ok _) packages old new = (main : p.Main) × (main_of packages ≡ Some main) × StoresMain (Ok tt) main old new
+BuildsPackages (Err (refused.Fault fault entries)) packages old new = (new ≡ old) × (entries ≡ packages.files) × (main_of packages ≡ None) × (fault ≡ unbuilt_fault)
+BuildsPackages (Err refused.ReadFault) packages old new = ⊥
+BuildsPackages (Err refused.WriteFault) packages old new = (main : p.Main) × (main_of packages ≡ Some main) × StoresMain (Err refused.WriteFault) main old new
+BuildsPackages (Err refused.NoMemory) packages old new = new ≡ old
+
+-- the place of the fault can be told: it is in one of the files, and these keep their limit
+abbrev pub CanBeTold : Refused → Type 0
+CanBeTold (refused.Fault fault entries) = (fault.place.file < length entries) × All (λ e. length e.bytes ≤ file_limit) entries
+CanBeTold refused.ReadFault = Unit {0}
+CanBeTold refused.WriteFault = Unit {0}
+CanBeTold refused.NoMemory = Unit {0}
+
+-- the same refusal
+abbrev pub Refuses : LoadRefusal → Refused → Type 0
+Refuses (load.Fault fault entries) result = result ≡ refused.Fault fault entries
+Refuses load.ReadFault result = result ≡ refused.ReadFault
+Refuses load.NoMemory result = result ≡ refused.NoMemory

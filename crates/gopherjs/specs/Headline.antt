@@ -9,7 +9,10 @@ use Rattle.gj_base.specs.Tree.{with_file}
 use Rattle.js_tree.specs.Script.{ScriptTree}
 use Rattle.js_tree.specs.Printed.{plain}
 use Rattle.js_emit.specs.Faithful.{Faithful}
-use Rattle.gopherjs.specs.Answers.{out_file, HoldsProgram, StoresScript, FailsToRead, FailsToStore, FindsUnbuilt}
+use Rattle.go_load.specs.Load.{FailsToRead}
+use Rattle.go_load.specs.declared.sources.FileEntry.{FileEntry}
+use Rattle.gopherjs.specs.FaultText.{told_fault, fault_line}
+use Rattle.gopherjs.specs.Answers.{out_file, HoldsProgram, StoresScript, FailsToStore, FindsFault}
 use Rattle.gopherjs.specs.declared.build.Refused.{Refused}
 use Rattle.gopherjs.specs.declared.build.Refused.TheVariants as refused
 use Rattle.gopherjs.specs.declared.outcome.Outcome.{Outcome}
@@ -31,19 +34,11 @@ write_failed_line = codes "gopherjs: write failed" ++ 10 ∷ []
 abbrev pub out_of_memory_line : List ℕ
 out_of_memory_line = codes "gopherjs: out of memory" ++ 10 ∷ []
 
--- the fault of a form that isn't built yet, at the start of a file
-abbrev pub unbuilt_fault : ℕ → Fault
-unbuilt_fault number = record { place = record { file = number; offset = 0 }; code = 0; text = codes "form not built yet" }
-
--- the line that tells of it: the start of a file is line 1, column 1
-abbrev pub unbuilt_line : List ℕ → List ℕ
-unbuilt_line name = name ++ codes ":1:1: form not built yet" ++ 10 ∷ []
-
 -- what a build of this folder comes to, and the line that tells of it
 abbrev pub BuildAnswers : Outcome → List ℕ → List ℕ → FilesState → FilesState → Type 0
 BuildAnswers Done line folder old new = StoresScript folder old new × (line ≡ [])
 BuildAnswers (outcome.Fault fault) line folder old new =
-    (number : ℕ) × (name : List ℕ) × (fault ≡ unbuilt_fault number) × (line ≡ unbuilt_line name) × FindsUnbuilt number name folder old new
+    (found : Fault) × (entries : List FileEntry) × FindsFault found entries folder old new × (fault ≡ told_fault found) × (line ≡ fault_line entries found)
 BuildAnswers ReadFault line folder old new = FailsToRead folder old new × (line ≡ read_failed_line)
 BuildAnswers WriteFault line folder old new = FailsToStore folder old new × (line ≡ write_failed_line)
 BuildAnswers NoMemory line folder old new = (new ≡ old) × (line ≡ out_of_memory_line)
@@ -86,5 +81,5 @@ abbrev pub IsToldOf : Refused → Outcome → List ℕ → Type 0
 IsToldOf refused.ReadFault answer line = (answer ≡ ReadFault) × (line ≡ read_failed_line)
 IsToldOf refused.WriteFault answer line = (answer ≡ WriteFault) × (line ≡ write_failed_line)
 IsToldOf refused.NoMemory answer line = (answer ≡ NoMemory) × (line ≡ out_of_memory_line)
-IsToldOf (refused.Unbuilt number name) answer line =
-    ((answer ≡ outcome.Fault (unbuilt_fault number)) × (line ≡ unbuilt_line name)) ⊎ ((answer ≡ NoMemory) × (line ≡ out_of_memory_line))
+IsToldOf (refused.Fault fault entries) answer line =
+    ((answer ≡ outcome.Fault (told_fault fault)) × (line ≡ fault_line entries fault)) ⊎ ((answer ≡ NoMemory) × (line ≡ out_of_memory_line))

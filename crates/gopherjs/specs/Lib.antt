@@ -1,7 +1,7 @@
 pub mod Settings
 pub mod Plain
-pub mod GoFiles
-pub mod Root
+pub mod Printing
+pub mod FaultText
 pub mod Outcome
 pub mod Answers
 pub mod Told

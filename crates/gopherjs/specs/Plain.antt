@@ -1,57 +1,90 @@
--- own: a plain file, the one kind of source that is built so far: a function `main` in which each
--- line prints one string literal without escapes.
-use Rattle.std.specs.Prelude.{◌≡◌, ◌++◌, ◌≤◌, List, [], ◌∷◌, ℕ, Bool, not, ◌&&◌, ◌==◌, nat_le, true, codes, length, flat_map, IsTrue}
-use Rattle.std.specs.List.{AllByRecursion}
-use Rattle.go_core.specs.Core.{Stmt, Stmts, no_stmts, stmt, sequence, print, constant, no_exprs, expr, Program}
+-- own: plain packages, the one kind of program that is built so far: one file whose one declaration is
+-- a function `main` in which each statement is empty or prints one string literal.
+use Rattle.std.specs.Prelude.{ℕ, Bool, true, false, not, ◌&&◌, List, [], ◌∷◌, Option, Some, None, codes, bytes_eq, if◌then◌else◌}
+use Rattle.gj_base.specs.declared.place.Place.{Place}
+use Rattle.go_syntax.specs.Tree as t
 
--- the lines `package main`, an empty one and `func main() {`
-abbrev pub head : List ℕ
-head = codes "package main" ++ 10 ∷ 10 ∷ codes "func main() {" ++ 10 ∷ []
+-- a `main`: where it is declared, and the texts that it prints, each on a line of its own
+pub record Main : Type 0 where
+  pub place : Place
+  pub texts : List (List ℕ)
 
--- the line `}`
-abbrev pub close : List ℕ
-close = 125 ∷ 10 ∷ []
+-- nothing between the parentheses, if there are any
+abbrev pub has_none : t.Params → Bool
+has_none t.NoParams = true
+has_none (t.MoreParams at name spread ty others) = false
 
--- a tab and `println("`
-abbrev pub open_line : List ℕ
-open_line = 9 ∷ codes "println(" ++ 34 ∷ []
+abbrev pub gives_nothing : t.Results → Bool
+gives_nothing t.NoResults = true
+gives_nothing (t.OneResult ty) = false
+gives_nothing (t.ManyResults at params) = has_none params
 
--- `")` and the line's end
-abbrev pub shut_line : List ℕ
-shut_line = 34 ∷ 41 ∷ 10 ∷ []
+-- no parameters and no results
+abbrev pub is_bare : t.Sig → Bool
+is_bare (t.SigOf at params results) = has_none params && gives_nothing results
 
--- a byte from 32 to 126 but `"` and `\`
-abbrev pub is_plain_byte : ℕ → Bool
-is_plain_byte b = nat_le 32 b && nat_le b 126 && not (b == 34) && not (b == 92)
+abbrev pub is_println : t.Expr → Bool
+is_println (t.NameExpr at name) = bytes_eq name (codes "println")
+is_println _ = false
 
-abbrev pub IsPlainText : List ℕ → Type 0
-IsPlainText text = AllByRecursion (λ b. IsTrue (is_plain_byte b)) text
+-- the value of a string literal
+abbrev pub literal_text : t.Expr → Option (List ℕ)
+literal_text (t.StrExpr at text) = Some text
+literal_text _ = None
 
--- the line that prints this text
-abbrev pub plain_line : List ℕ → List ℕ
-plain_line text = open_line ++ text ++ shut_line
+-- the value of the one argument, a string literal
+abbrev pub argument_text : t.Exprs → Option (List ℕ)
+argument_text t.NoExprs = None
+argument_text (t.MoreExprs e t.NoExprs) = literal_text e
+argument_text (t.MoreExprs e (t.MoreExprs f others)) = None
 
--- the most bytes of a source file
-abbrev pub file_limit : ℕ
-file_limit = 4194304
+-- the text that a call of `println` with one string literal and no `...` prints
+abbrev pub call_text : t.Expr → Option (List ℕ)
+call_text (t.CallExpr at callee arguments spread) = if not spread && is_println callee then argument_text arguments else None
+call_text _ = None
 
--- the file is plain, and prints these texts
-pub record IsPlain (file : List ℕ) (texts : List (List ℕ)) : Type 0 where
-  pub short : length file ≤ file_limit
-  pub plain : AllByRecursion IsPlainText texts
-  pub written : file ≡ head ++ flat_map plain_line texts ++ close
+-- the same of one expression alone
+abbrev pub call_in : t.Exprs → Option (List ℕ)
+call_in t.NoExprs = None
+call_in (t.MoreExprs e t.NoExprs) = call_text e
+call_in (t.MoreExprs e (t.MoreExprs f others)) = None
 
--- `println` of a text
-abbrev pub print_line : List ℕ → Stmt
-print_line text = print (expr (constant text) no_exprs) true
+-- the same of a statement that is such a call
+abbrev pub printed_text : t.Stmt → Option (List ℕ)
+printed_text (t.ExprStmt at exprs) = call_in exprs
+printed_text _ = None
 
-abbrev pub print_lines : List (List ℕ) → Stmts
-print_lines [] = no_stmts
-print_lines (text ∷ texts) = stmt (print_line text) (print_lines texts)
+abbrev pub is_empty : t.Stmt → Bool
+is_empty (t.EmptyStmt at) = true
+is_empty _ = false
 
--- the program of a plain file that prints these texts: its `main`, which is declared after the empty line
-abbrev pub program_printing : List (List ℕ) → Program
-program_printing texts = record {
-  funcs = record { name = codes "main.main"; place = record { file = 0; offset = 14 }; body = sequence (print_lines texts) } ∷ [];
-  main = 0;
-}
+-- a text before others, where all are there
+abbrev pub with_text : Option (List ℕ) → Option (List (List ℕ)) → Option (List (List ℕ))
+with_text None texts = None
+with_text (Some text) None = None
+with_text (Some text) (Some texts) = Some (text ∷ texts)
+
+-- the texts that statements print, where each of them is empty or prints one
+abbrev pub texts_of : t.Stmts → Option (List (List ℕ))
+texts_of t.NoStmts = Some []
+texts_of (t.MoreStmts s ss) = if is_empty s then texts_of ss else with_text (printed_text s) (texts_of ss)
+
+abbrev pub main_printing : Place → Option (List (List ℕ)) → Option Main
+main_printing at None = None
+main_printing at (Some texts) = Some (record { place = at; texts = texts })
+
+-- a declaration of a function `main` without parameters and results, whose statements print texts
+abbrev pub main_of : t.Decl → Option Main
+main_of (t.FuncDecl at name sig (t.BlockOf opens stmts closes)) = if bytes_eq name.text (codes "main") && is_bare sig then main_printing at (texts_of stmts) else None
+main_of _ = None
+
+abbrev pub main_in : List t.Decl → Option Main
+main_in [] = None
+main_in (decl ∷ []) = main_of decl
+main_in (decl ∷ other ∷ others) = None
+
+-- the `main` of a package with these files; none where it is not plain
+abbrev pub plain_main : List t.File → Option Main
+plain_main [] = None
+plain_main (file ∷ []) = main_in file.decls
+plain_main (file ∷ other ∷ others) = None

@@ -1,19 +1,23 @@
 //! The command `build`: from a folder to a stored script.
 
-ghost use Rattle.std.specs.Prelude.{◌≡◌, ◌≤◌, ℕ, List, [], ◌∷◌, Ok, All, length, Some, IfOk, IfSome, MatchResult, Contains, IsUtf8, string_bytes};
-ghost use Rattle.gj_base.specs.Tree.{path_in, bytes_at, IsName};
-ghost use Rattle.gopherjs.specs.GoFiles.{AreGoFiles};
-ghost use Rattle.gopherjs.specs.Answers.{Builds};
-ghost use Rattle.gopherjs.specs.Builds.{ListsRoot, ReadsFile, StoresProgram, IsCompiled};
+ghost use Rattle.std.specs.Prelude.{◌≡◌, ◌<◌, length, map, IfOk};
+ghost use Rattle.go_syntax.specs.View.{file_view};
+ghost use Rattle.go_load.specs.Packages.{paths_view};
+ghost use Rattle.gopherjs.specs.Answers.{Builds, unbuilt_fault};
+ghost use Rattle.gopherjs.specs.Builds.{main_view, root_trees, IsCompiled, StoresMain, BuildsPackages, Refuses};
 
-use crate::plain::{FILE_LIMIT, plain_texts};
-use crate::program::program_printing;
-use crate::root::{Root, root_of};
-use gj_base::{FileError, Files, NoMemory, StoreError, Text};
+use crate::plain::{Main, plain_main};
+use crate::program::program_of;
+use gj_base::{Fault, Files, NoMemory, Place, StoreError, Text};
 use go_core::{FuncSet, Order};
+use go_load::{LoadRefusal, Packages, Paths, Sources, load};
+use go_syntax::tree::File;
 use js_emit::emit;
 use js_tree::{Style, printed};
 use std::alloc::Global;
+
+/// The folder under which import paths are looked up, once imports are built.
+const SOURCE_FOLDER: &str = "src";
 
 /// Where the script is stored.
 const OUT_FILE: &str = "out.js";
@@ -21,13 +25,14 @@ const OUT_FILE: &str = "out.js";
 /// Why a build stored nothing whole.
 #[derive(Debug, Drop)]
 pub enum Refused {
+    /// The source files break a rule here, or have a form that isn't built yet. These are all files
+    /// that were read, by number.
+    Fault(Fault, Sources),
     /// A read failed, or the root has no `.go` file.
     ReadFault,
     /// The store failed.
     WriteFault,
     NoMemory,
-    /// A form that isn't built yet stands at the start of this file, by its number and its name.
-    Unbuilt { file: u32, name: Text },
 }
 
 impl From<NoMemory> for Refused {
@@ -45,84 +50,61 @@ impl From<NoMemory> for Refused {
 pub fn build<F: Files>(alloc: Global, folder: &str, files: &mut F) -> Result<(), Refused>
     ensures { Builds result folder.now (F.state files.old) (F.state files.new) }
 {
-    let names = list_root(alloc, folder, files)?;
-    match root_of(alloc, names)? {
-        Root::Empty => Err(Refused::ReadFault),
-        Root::Several(name) => Err(Refused::Unbuilt { file: 1, name }),
-        Root::One(name) => build_file(alloc, folder, name, files),
+    match load(alloc, files, folder, SOURCE_FOLDER) {
+        Ok(packages) => build_packages(alloc, packages, files),
+        Err(refusal) => Err(unloaded(refusal)),
     }
 }
 
-/// Compiles the one file of a folder, and stores its script.
-fn build_file<F: Files>(
-    alloc: Global,
-    folder: &str,
-    name: Text,
-    files: &mut F,
-) -> Result<(), Refused>
-    requires text { IsUtf8 name }
-    requires root { IfSome (F.state files.old).tree (λ tree. AreGoFiles tree folder.now (name ∷ [])) }
-    ensures { Builds result folder.now (F.state files.old) (F.state files.new) }
+/// What a build without packages is refused with.
+fn unloaded(refusal: LoadRefusal) -> Refused
+    ensures { Refuses refusal result }
 {
-    match read_texts(alloc, folder, &name, files)? {
-        None => Err(Refused::Unbuilt { file: 0, name }),
-        Some(texts) => store_program(alloc, texts, files),
+    match refusal {
+        LoadRefusal::Fault(fault, sources) => Refused::Fault(fault, sources),
+        LoadRefusal::ReadFault => Refused::ReadFault,
+        LoadRefusal::NoMemory => Refused::NoMemory,
     }
 }
 
-/// The names of the files in a folder.
-fn list_root<F: Files>(alloc: Global, folder: &str, files: &mut F) -> Result<Vec<Text>, Refused>
-    ensures { ListsRoot result folder.now (F.state files.old) (F.state files.new) }
+/// Compiles packages without a fault, and stores their script, where the root is plain.
+fn build_packages<F: Files>(alloc: Global, packages: Packages, files: &mut F) -> Result<(), Refused>
+    ensures { BuildsPackages result packages (F.state files.old) (F.state files.new) }
 {
-    match files.list(alloc, folder) {
-        Ok(names) => Ok(names),
-        Err(FileError::Missing) => Err(Refused::ReadFault),
-        Err(FileError::TooLong) => unreachable!(),
-        Err(FileError::Failed) => Err(Refused::ReadFault),
-        Err(FileError::NoMemory) => Err(Refused::NoMemory),
+    let found = plain_main(alloc, root_files(&packages.packages));
+    let sources = packages.into_files();
+    match found? {
+        Some(main) => store_program(alloc, main, files),
+        None => Err(Refused::Fault(unbuilt(alloc), sources)),
     }
 }
 
-/// The texts that a file prints; None where it isn't plain.
-fn read_texts<F: Files>(
-    alloc: Global,
-    folder: &str,
-    name: &Text,
-    files: &mut F,
-) -> Result<Option<Vec<Text>>, Refused>
-    requires text { IsUtf8 name.now }
-    requires root { IfSome (F.state files.old).tree (λ tree. AreGoFiles tree folder.now (name.now ∷ [])) }
-    ensures { ReadsFile result folder.now name.now (F.state files.old) (F.state files.new) }
+/// The trees of the root.
+fn root_files(packages: &Paths) -> &[File]
+    ensures { map file_view result.now ≡ root_trees (paths_view packages.now) }
 {
-    let path = path_in(alloc, folder, name)?;
-    match files.read(alloc, path.as_str(), FILE_LIMIT) {
-        Ok(bytes) => Ok(plain_texts(alloc, bytes.as_slice())?),
-        Err(FileError::TooLong) => Ok(None),
-        Err(FileError::Missing) => Err(Refused::ReadFault),
-        Err(FileError::Failed) => Err(Refused::ReadFault),
-        Err(FileError::NoMemory) => Err(Refused::NoMemory),
+    match packages.get(0) {
+        Some(root) => root.files.as_slice(),
+        None => &[],
     }
 }
 
-/// The path of a file in a folder.
-fn path_in(alloc: Global, folder: &str, name: &Text) -> Result<String, NoMemory>
-    requires { IsUtf8 name.now }
-    ensures { IfOk result (λ path. string_bytes path ≡ path_in folder.now name.now) }
+/// The fault of a form that isn't built yet, at the start of the root's first file.
+fn unbuilt(alloc: Global) -> Fault
+    ensures { result ≡ unbuilt_fault }
 {
-    let Ok(name) = str::from_utf8(name.as_bytes()) else {
-        unreachable!()
-    };
-    let mut path = String::from_str(alloc, folder)?;
-    path.push('/')?;
-    path.push_str(name)?;
-    Ok(path)
+    Fault {
+        place: Place { file: 0, offset: 0 },
+        code: 0,
+        text: Text::new(alloc),
+    }
 }
 
-/// Compiles the program that prints these texts, and stores its script.
-fn store_program<F: Files>(alloc: Global, texts: Vec<Text>, files: &mut F) -> Result<(), Refused>
-    ensures { StoresProgram result texts.items (F.state files.old) (F.state files.new) }
+/// Compiles the program of this `main`, and stores its script.
+fn store_program<F: Files>(alloc: Global, main: Main, files: &mut F) -> Result<(), Refused>
+    ensures { StoresMain result (main_view main) (F.state files.old) (F.state files.new) }
 {
-    let script = compile(alloc, texts)?;
+    let script = compile(alloc, main)?;
     match files.store(OUT_FILE, script.as_bytes()) {
         Ok(()) => Ok(()),
         Err(StoreError::Failed) => Err(Refused::WriteFault),
@@ -130,11 +112,11 @@ fn store_program<F: Files>(alloc: Global, texts: Vec<Text>, files: &mut F) -> Re
     }
 }
 
-/// The text of a script that is faithful to the program that prints these texts.
-fn compile(alloc: Global, texts: Vec<Text>) -> Result<Text, NoMemory>
-    ensures { IfOk result (λ text. IsCompiled texts.items text) }
+/// The text of a script that is faithful to the program of this `main`.
+fn compile(alloc: Global, main: Main) -> Result<Text, NoMemory>
+    ensures { IfOk result (λ text. IsCompiled (main_view main) text) }
 {
-    let program = program_printing(alloc, texts)?;
+    let program = program_of(alloc, main)?;
     let script = emit(alloc, &program, &Order::new(alloc), &FuncSet::new(alloc))?;
     printed(alloc, &script, Style::Plain)
 }

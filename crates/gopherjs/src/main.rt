@@ -7,7 +7,6 @@ mod outcome;
 mod plain;
 mod program;
 mod report;
-mod root;
 mod stream;
 #[cfg(test)]
 mod tests;

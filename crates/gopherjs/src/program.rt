@@ -1,28 +1,24 @@
-//! The core program of a plain file.
+//! The core program of a plain package.
 
 ghost use Rattle.std.specs.Prelude.{◌≡◌, map, IfOk};
 ghost use Rattle.go_core.specs.View.{stmt_view, stmts_of, program_view};
-ghost use Rattle.gopherjs.specs.Plain.{print_line, print_lines, program_printing};
+ghost use Rattle.gopherjs.specs.Builds.{main_view};
+ghost use Rattle.gopherjs.specs.Printing.{print_line, print_lines, program_of};
 
-use gj_base::{NoMemory, Place, Text};
+use crate::plain::Main;
+use gj_base::{NoMemory, Text};
 use go_core::{CoreExpr, CoreExprs, CoreStmt, CoreStmts, Func, FuncId, Funcs, Program};
 use std::alloc::Global;
 
-/// Where `func` of `main` stands in a plain file.
-const MAIN_OFFSET: u32 = 14;
-
-/// The program that prints each of these texts on a line of its own.
-pub fn program_printing(alloc: Global, texts: Vec<Text>) -> Result<Program, NoMemory>
-    ensures { IfOk result (λ p. program_view p ≡ program_printing texts.items) }
+/// The program whose one function is this `main`.
+pub fn program_of(alloc: Global, main: Main) -> Result<Program, NoMemory>
+    ensures { IfOk result (λ p. program_view p ≡ program_of (main_view main)) }
 {
     let mut items = Vec::new(alloc);
     items.push(Func {
         name: Text::from_slice(alloc, b"main.main")?,
-        place: Place {
-            file: 0,
-            offset: MAIN_OFFSET,
-        },
-        body: CoreStmt::Seq(print_lines(alloc, texts)?),
+        place: main.place,
+        body: CoreStmt::Seq(print_lines(alloc, main.texts)?),
     })?;
     Ok(Program {
         funcs: Funcs { items },

@@ -1,9 +1,15 @@
 //! What a user is told, in one table: the lines for the error sink.
 
-ghost use Rattle.std.specs.Prelude.{◌≡◌, flat_map};
+ghost use Rattle.std.specs.Prelude.{◌≡◌, ◌≤◌, IfOk, flat_map, length};
+ghost use Rattle.gj_base.specs.LineColumn.{line_and_column};
+ghost use Rattle.go_load.specs.Root.{file_limit};
+ghost use Rattle.gopherjs.specs.FaultText.{sentence, fault_text, line_of, line_at};
 ghost use Rattle.gopherjs.specs.Told.{Told};
 
-use gj_base::Sink;
+use gj_base::{Fault, NoMemory, Sink, Text, line_col};
+use go_load::FileEntry;
+use itoa::Buffer;
+use std::alloc::Global;
 
 /// The lines that tell which words there are.
 pub const USAGE: &[u8] = b"usage: gopherjs build [-o FILE] [-m] [--src DIR] DIR
@@ -19,8 +25,96 @@ pub const READ_FAILED: &[u8] = b"gopherjs: read failed\n";
 pub const WRITE_FAILED: &[u8] = b"gopherjs: write failed\n";
 
 pub const OUT_OF_MEMORY: &[u8] = b"gopherjs: out of memory\n";
-/// The text of a form that isn't built yet.
-pub const UNBUILT: &[u8] = b"form not built yet";
+
+/// The text of a fault with this code, up to what the fault itself tells.
+fn sentence(code: u16) -> &'static [u8]
+    ensures { result.now ≡ sentence code }
+{
+    match code {
+        0 => b"form not built yet",
+        1 => b"invalid character",
+        2 => b"invalid UTF-8",
+        3 => b"string literal not terminated",
+        4 => b"invalid rune literal",
+        5 => b"floats and imaginary numbers are not in the profile",
+        6 => b"invalid number",
+        7 => b"invalid escape",
+        8 => b"comment not terminated",
+        9 => b"number outside 128 bits",
+        10 => b"syntax error: unexpected ",
+        11 => b"nesting deeper than 100",
+        12 => b"chain longer than 500",
+        42 => b"package names differ",
+        43 => b"no function main",
+        44 => b"wrong use of package main",
+        45 => b"file longer than 4194304 bytes",
+        46 => b"program too large",
+        47 => b"build constraints are not in the profile",
+        _ => b"",
+    }
+}
+
+/// The whole text of a fault.
+pub fn fault_text(alloc: Global, fault: &Fault) -> Result<Text, NoMemory>
+    ensures { IfOk result (λ text. text ≡ fault_text fault.now) }
+{
+    let mut text = Text::from_slice(alloc, sentence(fault.code))?;
+    text.push_bytes(fault.text.as_bytes())?;
+    Ok(text)
+}
+
+/// Tells this text of a place in a file.
+pub fn tell_at<E: Sink>(entry: &FileEntry, offset: u32, text: &[u8], err: &mut E)
+    requires { length entry.now.bytes ≤ file_limit }
+    ensures { Told (line_at entry.now.name (line_and_column entry.now.bytes offset) text.now) (E.state err.old) (E.state err.new) }
+{
+    tell_in(
+        entry.name.as_bytes(),
+        entry.bytes.as_bytes(),
+        offset,
+        text,
+        err,
+    );
+}
+
+/// Tells this text of an offset in a file of this name with these bytes.
+fn tell_in<E: Sink>(name: &[u8], bytes: &[u8], offset: u32, text: &[u8], err: &mut E)
+    requires { length bytes.now ≤ file_limit }
+    ensures { Told (line_at name.now (line_and_column bytes.now offset) text.now) (E.state err.old) (E.state err.new) }
+{
+    let (line, column) = place_in(bytes, offset);
+    tell_place(name, line, column, text, err);
+}
+
+/// Tells this text of a line and a column in a file of this name.
+fn tell_place<E: Sink>(name: &[u8], line: u32, column: u32, text: &[u8], err: &mut E)
+    ensures { Told (line_at name.now (line, column) text.now) (E.state err.old) (E.state err.new) }
+{
+    let mut line_digits = Buffer::new();
+    let mut column_digits = Buffer::new();
+    let line = line_digits.format(line).as_bytes();
+    let column = column_digits.format(column).as_bytes();
+    tell_parts(name, line, column, text, err);
+}
+
+/// Tells this text of a place whose numbers are written so.
+fn tell_parts<E: Sink>(name: &[u8], line: &[u8], column: &[u8], text: &[u8], err: &mut E)
+    ensures { Told (line_of name.now line.now column.now text.now) (E.state err.old) (E.state err.new) }
+{
+    tell(err, &[name, b":", line, b":", column, b": ", text, b"\n"]);
+}
+
+/// The line and the column of an offset. Past the end they are those of the end.
+fn place_in(bytes: &[u8], offset: u32) -> (u32, u32)
+    requires { length bytes.now ≤ file_limit }
+    ensures { result ≡ line_and_column bytes.now offset }
+{
+    let size = bytes.len() as u32;
+    if offset < size {
+        return line_col(bytes, offset);
+    }
+    line_col(bytes, size)
+}
 
 /// Writes a line in pieces; after a failed write nothing more is written.
 pub fn tell<E: Sink>(err: &mut E, pieces: &[&[u8]])

@@ -26,7 +26,7 @@ const USAGE: &str = "usage: gopherjs build [-o FILE] [-m] [--src DIR] DIR
        gopherjs version
 ";
 
-const ROWS: [Row; 12] = [
+const ROWS: [Row; 34] = [
     Row {
         name: "builds-hello",
         words: &["build", "app"],
@@ -39,6 +39,58 @@ const ROWS: [Row; 12] = [
         name: "builds-empty-main",
         words: &["build", "app"],
         files: &[("app/main.go", "package main\n\nfunc main() {\n}\n")],
+        status: 0,
+        told: "",
+        stores: true,
+    },
+    Row {
+        name: "last-line-without-newline",
+        words: &["build", "app"],
+        files: &[("app/main.go", "package main\n\nfunc main() {\n}")],
+        status: 0,
+        told: "",
+        stores: true,
+    },
+    Row {
+        name: "several-on-one-line",
+        words: &["build", "app"],
+        files: &[(
+            "app/main.go",
+            "package main; func main() { println(\"a\"); println(\"b\") }",
+        )],
+        status: 0,
+        told: "",
+        stores: true,
+    },
+    Row {
+        name: "comments-and-parentheses-of-no-result",
+        words: &["build", "app"],
+        files: &[(
+            "app/main.go",
+            "// a\npackage main\n\nfunc main() () { /* b */ }\n",
+        )],
+        status: 0,
+        told: "",
+        stores: true,
+    },
+    Row {
+        name: "an-escape",
+        words: &["build", "app"],
+        files: &[(
+            "app/main.go",
+            "package main\n\nfunc main() {\n\tprintln(\"a\\n\")\n}\n",
+        )],
+        status: 0,
+        told: "",
+        stores: true,
+    },
+    Row {
+        name: "raw-string",
+        words: &["build", "app"],
+        files: &[(
+            "app/main.go",
+            "package main\n\nfunc main() {\n\tprintln(`a\\b`)\n}\n",
+        )],
         status: 0,
         told: "",
         stores: true,
@@ -64,33 +116,6 @@ const ROWS: [Row; 12] = [
         stores: true,
     },
     Row {
-        name: "bare-package-clause",
-        words: &["build", "app"],
-        files: &[("app/main.go", "package main\n")],
-        status: 1,
-        told: "main.go:1:1: form not built yet\n",
-        stores: false,
-    },
-    Row {
-        name: "last-line-without-newline",
-        words: &["build", "app"],
-        files: &[("app/main.go", "package main\n\nfunc main() {\n}")],
-        status: 1,
-        told: "main.go:1:1: form not built yet\n",
-        stores: false,
-    },
-    Row {
-        name: "an-escape-is-not-plain",
-        words: &["build", "app"],
-        files: &[(
-            "app/main.go",
-            "package main\n\nfunc main() {\n\tprintln(\"a\\n\")\n}\n",
-        )],
-        status: 1,
-        told: "main.go:1:1: form not built yet\n",
-        stores: false,
-    },
-    Row {
         name: "two-files-in-root",
         words: &["build", "app"],
         files: &[
@@ -99,7 +124,203 @@ const ROWS: [Row; 12] = [
             ("app/c.go", HELLO),
         ],
         status: 1,
-        told: "c.go:1:1: form not built yet\n",
+        told: "b.go:1:1: form not built yet\n",
+        stores: false,
+    },
+    Row {
+        name: "two-declarations",
+        words: &["build", "app"],
+        files: &[(
+            "app/main.go",
+            "package main\n\nvar x int\n\nfunc main() {\n}\n",
+        )],
+        status: 1,
+        told: "main.go:1:1: form not built yet\n",
+        stores: false,
+    },
+    Row {
+        name: "main-with-a-parameter",
+        words: &["build", "app"],
+        files: &[("app/main.go", "package main\n\nfunc main(x int) {\n}\n")],
+        status: 1,
+        told: "main.go:1:1: form not built yet\n",
+        stores: false,
+    },
+    Row {
+        name: "main-with-a-result",
+        words: &["build", "app"],
+        files: &[("app/main.go", "package main\n\nfunc main() int {\n}\n")],
+        status: 1,
+        told: "main.go:1:1: form not built yet\n",
+        stores: false,
+    },
+    Row {
+        name: "a-label-is-not-plain",
+        words: &["build", "app"],
+        files: &[("app/main.go", "package main\n\nfunc main() {\n\tL:\n}\n")],
+        status: 1,
+        told: "main.go:1:1: form not built yet\n",
+        stores: false,
+    },
+    Row {
+        name: "print-is-not-plain",
+        words: &["build", "app"],
+        files: &[(
+            "app/main.go",
+            "package main\n\nfunc main() {\n\tprint(\"a\")\n}\n",
+        )],
+        status: 1,
+        told: "main.go:1:1: form not built yet\n",
+        stores: false,
+    },
+    Row {
+        name: "two-literals-are-not-plain",
+        words: &["build", "app"],
+        files: &[(
+            "app/main.go",
+            "package main\n\nfunc main() {\n\tprintln(\"a\", \"b\")\n}\n",
+        )],
+        status: 1,
+        told: "main.go:1:1: form not built yet\n",
+        stores: false,
+    },
+    Row {
+        name: "a-number-is-not-plain",
+        words: &["build", "app"],
+        files: &[(
+            "app/main.go",
+            "package main\n\nfunc main() {\n\tprintln(1)\n}\n",
+        )],
+        status: 1,
+        told: "main.go:1:1: form not built yet\n",
+        stores: false,
+    },
+    Row {
+        name: "dots-are-not-plain",
+        words: &["build", "app"],
+        files: &[(
+            "app/main.go",
+            "package main\n\nfunc main() {\n\tprintln(\"a\"...)\n}\n",
+        )],
+        status: 1,
+        told: "main.go:1:1: form not built yet\n",
+        stores: false,
+    },
+    Row {
+        name: "hundred-parentheses",
+        words: &["build", "app"],
+        files: &[(
+            "app/main.go",
+            "package main\n\nfunc main() {\n\tx := ((((((((((((((((((((((((((((((((((((((((((((((((((((((((((((((((((((((((((((((((((((((((((((((((((((1))))))))))))))))))))))))))))))))))))))))))))))))))))))))))))))))))))))))))))))))))))))))))))))))))))\n\tprintln(x)\n}\n",
+        )],
+        status: 1,
+        told: "main.go:1:1: form not built yet\n",
+        stores: false,
+    },
+    Row {
+        name: "hundred-and-one-parentheses",
+        words: &["build", "app"],
+        files: &[(
+            "app/main.go",
+            "package main\n\nfunc main() {\n\tx := (((((((((((((((((((((((((((((((((((((((((((((((((((((((((((((((((((((((((((((((((((((((((((((((((((((1)))))))))))))))))))))))))))))))))))))))))))))))))))))))))))))))))))))))))))))))))))))))))))))))))))))\n\tprintln(x)\n}\n",
+        )],
+        status: 1,
+        told: "main.go:4:107: nesting deeper than 100\n",
+        stores: false,
+    },
+    Row {
+        name: "missing-operand",
+        words: &["build", "app"],
+        files: &[(
+            "app/main.go",
+            "package main\n\nfunc main() {\n\tx := 1 +\n}\n",
+        )],
+        status: 1,
+        told: "main.go:5:1: syntax error: unexpected }\n",
+        stores: false,
+    },
+    Row {
+        name: "end-of-file",
+        words: &["build", "app"],
+        files: &[("app/main.go", "package main\n\nfunc main() {")],
+        status: 1,
+        told: "main.go:3:14: syntax error: unexpected EOF\n",
+        stores: false,
+    },
+    Row {
+        name: "unknown-escape",
+        words: &["build", "app"],
+        files: &[(
+            "app/main.go",
+            "package main\n\nfunc main() {\n\tprintln(\"a\\qb\")\n}\n",
+        )],
+        status: 1,
+        told: "main.go:4:12: invalid escape\n",
+        stores: false,
+    },
+    Row {
+        name: "unterminated-string",
+        words: &["build", "app"],
+        files: &[("app/main.go", "package main\n\nfunc main() { println(\"hel")],
+        status: 1,
+        told: "main.go:3:23: string literal not terminated\n",
+        stores: false,
+    },
+    Row {
+        name: "lexical-before-syntax",
+        words: &["build", "app"],
+        files: &[
+            ("app/a.go", "package\n"),
+            ("app/b.go", "package main\n\n#\n"),
+        ],
+        status: 1,
+        told: "b.go:3:1: invalid character\n",
+        stores: false,
+    },
+    Row {
+        name: "an-import",
+        words: &["build", "app"],
+        files: &[(
+            "app/main.go",
+            "package main\n\nimport \"fmt\"\n\nfunc main() {}\n",
+        )],
+        status: 1,
+        told: "main.go:3:8: form not built yet\n",
+        stores: false,
+    },
+    Row {
+        name: "bare-package-clause",
+        words: &["build", "app"],
+        files: &[("app/main.go", "package main\n")],
+        status: 1,
+        told: "main.go:1:1: no function main\n",
+        stores: false,
+    },
+    Row {
+        name: "another-package",
+        words: &["build", "app"],
+        files: &[("app/main.go", "// a\npackage lib\nfunc main() {\n}\n")],
+        status: 1,
+        told: "main.go:2:1: wrong use of package main\n",
+        stores: false,
+    },
+    Row {
+        name: "package-names-differ",
+        words: &["build", "app"],
+        files: &[("app/a.go", HELLO), ("app/b.go", "\npackage lib\n")],
+        status: 1,
+        told: "b.go:2:1: package names differ\n",
+        stores: false,
+    },
+    Row {
+        name: "build-constraint",
+        words: &["build", "app"],
+        files: &[(
+            "app/main.go",
+            "// +build x\n\npackage main\n\nfunc main() {\n}\n",
+        )],
+        status: 1,
+        told: "main.go:1:1: build constraints are not in the profile\n",
         stores: false,
     },
     Row {
@@ -201,15 +422,51 @@ function $start(){
 $start();
 ";
 
+const STORED_RAW: &str = "var $fs=require(\"fs\");
+function $write(s){var b=Buffer.from(s,\"latin1\"),i=0;while(i<b.length){i+=$fs.writeSync(1,b,i);}}
+function $pick(k){return Math.floor(Math.random()*k);}
+function $end(c,t){var b=Buffer.from(t,\"latin1\"),i=0;while(i<b.length){i+=$fs.writeSync(2,b,i);}process.exit(c);}
+function $start(){
+  $write(\"a\\\\b\\x0a\");
+}
+$start();
+";
+
+/// The raw string is `a`, a backslash and `b`.
+const RAW: &str = "package main\n\nfunc main() {\n\tprintln(`a\\b`)\n}\n";
+
 #[test]
 fn stores_the_script(rt: HostRuntime) -> Result<(), Fail> {
-    let mut files = hello(rt.alloc())?;
+    for (source, script) in &[(HELLO, STORED), (RAW, STORED_RAW)] {
+        let mut files = tree(rt.alloc(), &[("app/main.go", *source)])?;
+        let mut out = VecSink::new(rt.alloc());
+        let mut err = VecSink::new(rt.alloc());
+        let words = strings(rt.alloc(), &["build", "app"])?;
+        let outcome = gopherjs(rt.alloc(), words.as_slice(), &mut files, &mut out, &mut err);
+        assert_eq!(rt; status_of(&outcome), 0);
+        assert!(rt; holds(&files, "out.js", script));
+    }
+    Ok(())
+}
+
+/// The fault of the outcome has its place, its code and its whole text.
+#[test]
+fn the_outcome_has_the_fault(rt: HostRuntime) -> Result<(), Fail> {
+    let source = "package main\n\nfunc main() {\n\tx := 1 +\n}\n";
+    let mut files = tree(rt.alloc(), &[("app/main.go", source)])?;
     let mut out = VecSink::new(rt.alloc());
     let mut err = VecSink::new(rt.alloc());
     let words = strings(rt.alloc(), &["build", "app"])?;
     let outcome = gopherjs(rt.alloc(), words.as_slice(), &mut files, &mut out, &mut err);
-    assert_eq!(rt; status_of(&outcome), 0);
-    assert_eq!(rt; files.bytes("out.js"), Some(STORED.as_bytes()));
+    match &outcome {
+        Outcome::Fault(fault) => {
+            assert_eq!(rt; fault.code, 10);
+            assert_eq!(rt; fault.place.file, 0);
+            assert_eq!(rt; fault.place.offset, 38);
+            assert!(rt; is_text(fault.text.as_bytes(), "syntax error: unexpected }"));
+        }
+        other => assert!(rt; false, "{other:?}"),
+    }
     Ok(())
 }
 
@@ -250,11 +507,12 @@ fn a_failed_write_of_the_line_changes_no_outcome(rt: HostRuntime) -> Result<(), 
     files.put("app/main.go", b"package main\n")?;
     let mut out = VecSink::new(rt.alloc());
     let mut err = VecSink::new(rt.alloc());
-    err.fail(1, 3)?;
+    // The seventh piece is the text.
+    err.fail(6, 3)?;
     let words = strings(rt.alloc(), &["build", "app"])?;
     let outcome = gopherjs(rt.alloc(), words.as_slice(), &mut files, &mut out, &mut err);
     assert_eq!(rt; status_of(&outcome), 1);
-    assert_eq!(rt; err.bytes(), b"main.go:1:".as_slice());
+    assert_eq!(rt; err.bytes(), b"main.go:1:1: no ".as_slice());
     Ok(())
 }
 

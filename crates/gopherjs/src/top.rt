@@ -4,14 +4,17 @@ ghost use Rattle.std.specs.Prelude.{◌≡◌, ◌++◌, ◌∷◌, List, ℕ, m
 ghost use Rattle.gopherjs.specs.Settings.{settings_of};
 ghost use Rattle.gopherjs.specs.Told.{Told};
 ghost use Rattle.gopherjs.specs.Headline.{Answers, Headline, IsComplete, CountsStay, TreeStays, IsToldOf};
-ghost use Rattle.gopherjs.specs.declared.build.Refused.TheVariants.{Unbuilt};
+ghost use Rattle.gopherjs.specs.Builds.{CanBeTold};
+ghost use Rattle.gopherjs.specs.declared.build.Refused.TheVariants as refusal;
 
 use crate::build::{Refused, build};
 use crate::outcome::Outcome;
 use crate::report;
-use crate::report::tell;
+use crate::report::{fault_text, tell, tell_at};
 use crate::words::folder_of;
-use gj_base::{Fault, Files, NoMemory, Place, Sink, Text};
+use gj_base::{Fault, Files, Sink};
+use go_grammar::laws::derives_one_file;
+use go_load::Sources;
 use std::alloc::Global;
 
 /// Does what the words ask for: the arguments without the program's name.
@@ -39,6 +42,7 @@ pub fn gopherjs<F: Files, O: Sink, E: Sink>(
     ensures out { O.state out.new ≡ O.state out.old }
 {
     let _ = out;
+    derives_one_file();
     let Some(folder) = folder_of(words) else {
         tell(err, &[report::USAGE]);
         return Outcome::Usage;
@@ -51,6 +55,7 @@ pub fn gopherjs<F: Files, O: Sink, E: Sink>(
 
 /// Tells why a build stored nothing whole.
 fn refuse<E: Sink>(alloc: Global, refused: Refused, err: &mut E) -> Outcome
+    requires { CanBeTold refused }
     ensures { (line : List ℕ) × IsToldOf refused result line × Told line (E.state err.old) (E.state err.new) }
 {
     match refused {
@@ -66,22 +71,25 @@ fn refuse<E: Sink>(alloc: Global, refused: Refused, err: &mut E) -> Outcome
             tell(err, &[report::OUT_OF_MEMORY]);
             Outcome::NoMemory
         }
-        Refused::Unbuilt { file, name } => refuse_unbuilt(alloc, file, &name, err),
+        Refused::Fault(fault, sources) => refuse_fault(alloc, fault, &sources, err),
     }
 }
 
-/// Tells of a form that isn't built yet, at the start of a file.
-fn refuse_unbuilt<E: Sink>(alloc: Global, file: u32, name: &Text, err: &mut E) -> Outcome
-    ensures { (line : List ℕ) × IsToldOf (Unbuilt file name.now) result line × Told line (E.state err.old) (E.state err.new) }
+/// Tells of a fault in these files.
+fn refuse_fault<E: Sink>(alloc: Global, fault: Fault, sources: &Sources, err: &mut E) -> Outcome
+    requires { CanBeTold (refusal.Fault fault sources.now) }
+    ensures { (line : List ℕ) × IsToldOf (refusal.Fault fault sources.now) result line × Told line (E.state err.old) (E.state err.new) }
 {
-    let Ok(text) = Text::from_slice(alloc, report::UNBUILT) else {
+    let Ok(text) = fault_text(alloc, &fault) else {
         tell(err, &[report::OUT_OF_MEMORY]);
         return Outcome::NoMemory;
     };
-    tell(err, &[name.as_bytes(), b":1:1: ", report::UNBUILT, b"\n"]);
+    let place = fault.place;
+    let entry = &sources.as_slice()[place.file as usize];
+    tell_at(entry, place.offset, text.as_bytes(), err);
     Outcome::Fault(Fault {
-        place: Place { file, offset: 0 },
-        code: 0,
+        place,
+        code: fault.code,
         text,
     })
 }

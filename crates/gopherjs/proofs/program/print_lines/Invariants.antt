@@ -1,7 +1,7 @@
 use Rattle.std.proofs.Common.{◌≡◌, ◌++◌, map, length}
 use Rattle.std.specs.Vec.Iter.{into_iter_items}
 use Rattle.go_core.specs.View.{stmt_view}
-use Rattle.gopherjs.specs.Plain.{print_line}
+use Rattle.gopherjs.specs.Printing.{print_line}
 use Rattle.gopherjs.proofs.program.print_lines.Given as goal
 
 -- what was made, and what is left to make

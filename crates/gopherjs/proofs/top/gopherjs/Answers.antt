@@ -4,6 +4,7 @@ use Rattle.gopherjs.specs.Settings.{Settings}
 use Rattle.gopherjs.specs.Headline.{Answers}
 use Rattle.gopherjs.specs.declared.outcome.Outcome.TheVariants.{Done}
 use Rattle.gopherjs.proofs.TopLemmas.{headline, completes, appended-nil}
+use Rattle.gopherjs.proofs.BuildLemmas.{can_be_told}
 use Rattle.gopherjs.proofs.top.gopherjs.Goals as goal
 
 pub returns-in-Ok-clause-answer : goal.returns-in-Ok-clause-answer
@@ -17,4 +18,7 @@ pub returns-in-Ok-clause-headline : goal.returns-in-Ok-clause-headline
 returns-in-Ok-clause-headline g c = headline _ c.in-Some.folder.now _ _ c.in-Some.ensures c.in-Ok.ensures
 
 pub returns-in-Err-clause-complete : goal.returns-in-Err-clause-complete
-returns-in-Err-clause-complete g c = completes _ c.in-Some.folder.now c.in-Err.refused c.refuse.result c.refuse.ensures.0 _ _ c.in-Some.ensures c.refuse.ensures.1 c.in-Err.ensures
+returns-in-Err-clause-complete g c = completes c.derives_one_file.ensures.one _ c.in-Some.folder.now c.in-Err.refused c.refuse.result c.refuse.ensures.0 _ _ c.in-Some.ensures c.refuse.ensures.1 c.in-Err.ensures
+
+pub refuse-requires : goal.refuse-requires
+refuse-requires g c = can_be_told c.in-Err.refused c.in-Some.folder.now _ _ c.in-Err.ensures
