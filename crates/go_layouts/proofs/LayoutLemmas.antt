@@ -74,19 +74,19 @@ pub onward_step : (ts : List Ty) (start now next : Layout) (looked c d : Bool) (
     → Onward ts start now looked (part c s rest) all → Adds ts now next d s → Onward ts start next looked rest all
 onward_step ts start now next looked c d s rest all e h a = record {
   zeros_ =
-    ap (λ (xs : Value). xs ++ parts_zeros rest) a.zeros_
-    ∙ append_assoc (value_of ts now.zeros.items) (zeros s) (parts_zeros rest)
-    ∙ h.zeros_;
+      ap (λ (xs : Value). xs ++ parts_zeros rest) a.zeros_
+      ∙ append_assoc (value_of ts now.zeros.items) (zeros s) (parts_zeros rest)
+      ∙ h.zeros_;
   flags_ =
-    ap (λ (fs : List Bool). fs ++ masked looked (parts_flags rest)) a.flags_
-    ∙ append_assoc now.flags.items (masked d (flags s)) (masked looked (parts_flags rest))
-    ∙ ap (λ (b : Bool). now.flags.items ++ (masked b (flags s) ++ masked looked (parts_flags rest))) e
-    ∙ ap (λ (fs : List Bool). now.flags.items ++ fs) (sym (masked_part looked c s rest))
-    ∙ h.flags_;
+      ap (λ (fs : List Bool). fs ++ masked looked (parts_flags rest)) a.flags_
+      ∙ append_assoc now.flags.items (masked d (flags s)) (masked looked (parts_flags rest))
+      ∙ ap (λ (b : Bool). now.flags.items ++ (masked b (flags s) ++ masked looked (parts_flags rest))) e
+      ∙ ap (λ (fs : List Bool). now.flags.items ++ fs) (sym (masked_part looked c s rest))
+      ∙ h.flags_;
   composites_ =
-    let e1 : next.composites ≡ now.composites + composites s = a.composites_ in
-    let e2 : now.composites + (composites s + parts_composites rest) ≡ start.composites + parts_composites all = h.composites_ in
-    omega (arith, e1, e2);
+      let e1 : next.composites ≡ now.composites + composites s = a.composites_ in
+      let e2 : now.composites + (composites s + parts_composites rest) ≡ start.composites + parts_composites all = h.composites_ in
+      omega (arith, e1, e2);
 }
 
 pub onward_end : (ts : List Ty) (start now : Layout) (looked : Bool) (all : Parts) → Onward ts start now looked no_parts all → AddsParts ts start now looked all

@@ -110,10 +110,13 @@ closes ts start mid new looked ps before b a hz hf hs hc = by_zeros (parts_zeros
     count =
         sym (length-map mid.zeros.items (scalar_of ts)) ∙ ap length a.zeros_ ∙ length-append (value_of ts start.zeros.items) (parts_zeros ps)
         ∙ ap (λ (n : ℕ). n + length (parts_zeros ps)) (length-map start.zeros.items (scalar_of ts))
+
     flag_count : length (parts_flags ps) ≡ length (parts_zeros ps)
     flag_count = length_parts_flags ps ∙ sym (length_parts_zeros ps)
+
     total : new.composites ≡ start.composites + suc (parts_composites ps)
     total = let e : mid.composites ≡ start.composites + parts_composites ps = a.composites_ in omega (arith, hc, e)
+
     by_zeros : (zs : Value) → parts_zeros ps ≡ zs → Adds ts start new looked (many ps)
     by_zeros [] e =
         let n : length (parts_zeros ps) ≡ 0 = ap length e in
@@ -121,14 +124,14 @@ closes ts start mid new looked ps before b a hz hf hs hc = by_zeros (parts_zeros
         let none : parts_flags ps ≡ [] = none_left (parts_flags ps) (flag_count ∙ n) in
         record {
           zeros_ =
-            hz m
-            ∙ ap (λ (xs : Value). xs ++ core.nil ∷ []) (a.zeros_ ∙ ap (λ (zs : Value). value_of ts start.zeros.items ++ zs) e ∙ append-nil (value_of ts start.zeros.items))
-            ∙ ap (λ (zs : Value). value_of ts start.zeros.items ++ padded zs) (sym e);
+              hz m
+              ∙ ap (λ (xs : Value). xs ++ core.nil ∷ []) (a.zeros_ ∙ ap (λ (zs : Value). value_of ts start.zeros.items ++ zs) e ∙ append-nil (value_of ts start.zeros.items))
+              ∙ ap (λ (zs : Value). value_of ts start.zeros.items ++ padded zs) (sym e);
           flags_ =
-            hf m
-            ∙ ap (λ (fs : List Bool). fs ++ false ∷ []) a.flags_
-            ∙ append_assoc start.flags.items (masked looked (parts_flags ps)) (false ∷ [])
-            ∙ ap (λ (fs : List Bool). start.flags.items ++ fs) (masked_none looked (parts_flags ps) none);
+              hf m
+              ∙ ap (λ (fs : List Bool). fs ++ false ∷ []) a.flags_
+              ∙ append_assoc start.flags.items (masked looked (parts_flags ps)) (false ∷ [])
+              ∙ ap (λ (fs : List Bool). start.flags.items ++ fs) (masked_none looked (parts_flags ps) none);
           composites_ = total;
         }
     by_zeros (z ∷ zs) e =

@@ -129,10 +129,8 @@ fn compare_scalars<'a>(
         (Scalar::Pointer(a), Scalar::Pointer(b)) => Ok(decided(a == b, 0)),
         (Scalar::Map(a), Scalar::Map(b)) => Ok(decided(a == b, 0)),
         (Scalar::Channel(a), Scalar::Channel(b)) => Ok(decided(a == b, 0)),
-        (
-            Scalar::Interface { ty: t, content: xs },
-            Scalar::Interface { ty: u, content: ys },
-        ) => compare_contents(alloc, table, t, u, xs, ys),
+        (Scalar::Interface { ty: t, content: xs }, Scalar::Interface { ty: u, content: ys }) =>
+            compare_contents(alloc, table, t, u, xs, ys),
         _ => Ok(Verdict::Different(0)),
     }
 }

@@ -39,13 +39,7 @@ fn leaf_holds(table: &TypeTable, asked: Asked, at: &GoType) -> bool
 
 // The fields of a struct that stands at `owner`.
 #[cycle(holds)]
-fn holds_all(
-    table: &TypeTable,
-    asked: Asked,
-    owner: TypeId,
-    fields: &[FieldRow],
-    left: u64,
-) -> bool
+fn holds_all(table: &TypeTable, asked: Asked, owner: TypeId, fields: &[FieldRow], left: u64) -> bool
     requires owner { owner.0 < size table.now }
     requires fields { FieldsBelow owner.0 fields.now }
     ensures value { result ≡ defined.all_with (asked_of asked) (defined.name_holds (asked_of asked) (names table.now) left) (fields_of (places table.now) fields.now) }

@@ -391,12 +391,7 @@ fn offset_at(
 
 /// Where the field with a number, or the element at an index, lies in a value of the type; 0 where
 /// there is none.
-pub fn offset_of(
-    alloc: Global,
-    table: &TypeTable,
-    t: TypeId,
-    number: u64,
-) -> Result<u64, NoMemory>
+pub fn offset_of(alloc: Global, table: &TypeTable, t: TypeId, number: u64) -> Result<u64, NoMemory>
     ensures value { IfOk result (λ n. n ≡ defined.offset_in (defined.part_of (defined.shape_of (names table.now) (tree_of (places table.now) t)) number)) }
 {
     if t.0 < table.len() {

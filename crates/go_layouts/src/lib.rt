@@ -6,6 +6,5 @@ pub mod equality;
 pub mod fields;
 pub mod holds;
 pub mod layout;
-
 #[cfg(test)]
 mod tests;

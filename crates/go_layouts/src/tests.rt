@@ -24,7 +24,9 @@ fn layouts_of(rt: &impl Abort, alloc: Global) -> Result<(), Fail> {
     assert!(rt; offset_of(alloc, &table, grid, 1)? == 2);
     let nothing = array(rt, &mut table, 0, BOOL)?;
     let layout = layout_of(alloc, &table, nothing)?;
-    assert!(rt; layout.zeros.len() == 1 && !layout.flags[0]);
+    assert!(rt; layout.zeros.len() == 1);
+    let expected: &[bool] = &[false];
+    assert!(rt; layout.flags.as_slice() == expected);
     Ok(())
 }
 

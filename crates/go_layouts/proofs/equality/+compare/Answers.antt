@@ -34,9 +34,9 @@ compare_all-scalars-preserved t c =
 pub compare_all-returns-in-None : goal.compare_all-returns-in-None
 compare_all-returns-in-None t c = record {
   value =
-    let e = stops (names c.args.table.now) (places c.args.table.now) c.args.looked.now c.args.xs.now c.args.ys.now c.scalars.i c.scalars.units (get_or c.args.looked.now c.scalars.i false) false c.index-xs-i.result c.index-ys-i.result (verdict_of c.in_ok-found.found) _
+      let e = stops (names c.args.table.now) (places c.args.table.now) c.args.looked.now c.args.xs.now c.args.ys.now c.scalars.i c.scalars.units (get_or c.args.looked.now c.scalars.i false) false c.index-xs-i.result c.index-ys-i.result (verdict_of c.in_ok-found.found) _
       (omega (arith, c.scalars-test.true)) (omega (arith, c.if-i-xs.false)) (omega (arith, c.if-i-ys.false)) refl c.index-xs-i.is c.index-ys-i.is c.in_ok-found.ensures.value c.in-None.ensures.none c.scalars.invariant in
-    subst (λ (w : Verdict). IfOk c.taking.result (λ v. verdict_of v ≡ w)) e c.taking.ensures.value;
+      subst (λ (w : Verdict). IfOk c.taking.result (λ v. verdict_of v ≡ w)) e c.taking.ensures.value;
 }
 
 pub compare_contents-returns-then-not-is_comparable : goal.compare_contents-returns-then-not-is_comparable

@@ -27,7 +27,7 @@ lay_array-returns t c =
     let ts = places c.args.table.now in
     record {
       value = closes ts c.args.out.now c.lay_copies.new.out c.pad.new.out c.args.looked (copies c.args.count (shape_with (name_shape (names c.args.table.now) c.args.left) (tree_of ts c.args.element))) c.places_in-before.result
-        c.places_in-before.ensures.value c.in_ok-lay_copies.ensures.value (λ h. c.in_ok-pad.ensures.zeros h ts) c.in_ok-pad.ensures.flags c.in_ok-pad.ensures.same c.in_ok-pad.ensures.composites;
+          c.places_in-before.ensures.value c.in_ok-lay_copies.ensures.value (λ h. c.in_ok-pad.ensures.zeros h ts) c.in_ok-pad.ensures.flags c.in_ok-pad.ensures.same c.in_ok-pad.ensures.composites;
     }
 
 pub lay_struct-returns : goal.lay_struct-returns
@@ -35,7 +35,7 @@ lay_struct-returns t c =
     let ts = places c.args.table.now in
     record {
       value = closes ts c.args.out.now c.lay_fields.new.out c.pad.new.out c.args.looked (parts_with (name_shape (names c.args.table.now) c.args.left) (fields_of ts c.args.fields.now)) c.places_in-before.result
-        c.places_in-before.ensures.value c.in_ok-lay_fields.ensures.value (λ h. c.in_ok-pad.ensures.zeros h ts) c.in_ok-pad.ensures.flags c.in_ok-pad.ensures.same c.in_ok-pad.ensures.composites;
+          c.places_in-before.ensures.value c.in_ok-lay_fields.ensures.value (λ h. c.in_ok-pad.ensures.zeros h ts) c.in_ok-pad.ensures.flags c.in_ok-pad.ensures.same c.in_ok-pad.ensures.composites;
     }
 
 pub lay_named-returns-in-Some : goal.lay_named-returns-in-Some

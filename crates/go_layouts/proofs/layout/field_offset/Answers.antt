@@ -15,5 +15,5 @@ returns c =
     let w = c.args.table.now in
     record {
       value = field_there (places w) (name_shape (names w) c.args.left) c.args.fields.now c.args.number c.places_in.result (omega (arith, c.if-number-fields.false))
-        (c.places_in.ensures.value ∙ laid_parts_size (places w) c.empty-before.result c.lay_fields.new.out _ c.empty-before.ensures.value.0 c.in_ok-lay_fields.ensures.value);
+          (c.places_in.ensures.value ∙ laid_parts_size (places w) c.empty-before.result c.lay_fields.new.out _ c.empty-before.ensures.value.0 c.in_ok-lay_fields.ensures.value);
     }
