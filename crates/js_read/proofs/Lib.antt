@@ -1,0 +1,4 @@
+pub mod Back
+pub mod Maps
+pub mod StmtLoops
+pub mod Whole
