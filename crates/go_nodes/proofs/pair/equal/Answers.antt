@@ -1,0 +1,11 @@
+use Rattle.std.proofs.Common.{◌≡◌, List}
+use Rattle.go_core.specs.CoreView.{expr_view}
+use Rattle.go_nodes.proofs.Views.{equal_view}
+use Rattle.go_nodes.proofs.pair.equal.Goals as goal
+
+pub returns : goal.returns
+returns c = record {
+  value = λ ts.
+      equal_view ts c.args.negated c.args.operands c.args.ty c.in_ok-left.field-0.left c.in_ok-left.field-0.right (expr_view ts c.args.left) (expr_view ts c.args.right)
+      (c.in_ok-left.ensures.left ts) (c.in_ok-left.ensures.right ts);
+}

@@ -1,0 +1,2 @@
+pub mod SameTypeLemmas
+pub mod TableLemmas
