@@ -99,7 +99,11 @@ fn is_cut(alloc: Global, row: &Row) -> Result<bool, Fail> {
 fn cut_texts(rt: HostRuntime) -> Result<(), Fail> {
     for row in &rows::ROWS {
         assert!(rt; is_cut(rt.alloc(), row)?, "{}", row.kept);
-        assert!(rt; is_script(rt.alloc(), &[row.kept, row.rest])?, "{}", row.kept);
+        assert!(rt;
+            is_script(rt.alloc(), &[row.kept, row.rest])?,
+            "{}",
+            row.kept
+        );
     }
     Ok(())
 }
@@ -124,8 +128,20 @@ fn is_deep_script(alloc: Global, row: &Deep) -> Result<bool, Fail> {
 
 fn nested_texts(rt: &impl Abort, alloc: Global, rows: &[Deep]) -> Result<(), Fail> {
     for row in rows {
-        assert!(rt; is_deep_cut(alloc, row)?, "{}{}{}", row.before, row.piece, row.kept);
-        assert!(rt; is_deep_script(alloc, row)?, "{}{}{}", row.before, row.piece, row.kept);
+        assert!(rt;
+            is_deep_cut(alloc, row)?,
+            "{}{}{}",
+            row.before,
+            row.piece,
+            row.kept
+        );
+        assert!(rt;
+            is_deep_script(alloc, row)?,
+            "{}{}{}",
+            row.before,
+            row.piece,
+            row.kept
+        );
     }
     Ok(())
 }
