@@ -12,7 +12,7 @@ echo "node --check, and node on an empty script:"
 : > "$work/empty.js"
 for script in script empty; do
     for turn in 1 2 3; do
-        /usr/bin/time -f "%e s, %M KiB" node --check "$work/$script.js"
+        /usr/bin/time -f "%U s of processor, %e s, %M KiB" node --check "$work/$script.js"
     done
 done
 
@@ -20,7 +20,7 @@ mkdir -p "$work/crates/read_time/src"
 crates='gj_base js_tree js_grammar js_nodes js_expr js_stmt_nodes js_read'
 for crate in $crates; do
     mkdir "$work/crates/$crate"
-    (cd "$here/../../crates/$crate" && tar cf - .) | (cd "$work/crates/$crate" && tar xf -)
+    (cd "$here/../../crates/$crate" && tar cf - --exclude=incremental .) | (cd "$work/crates/$crate" && tar xf -)
     grep -E "^$crate:" "$here/../../crates.txt" >> "$work/crates.txt"
 done
 echo 'read_time: js_read js_expr js_stmt_nodes js_nodes js_grammar js_tree gj_base itoa thiserror' >> "$work/crates.txt"
@@ -59,4 +59,4 @@ echo "read:"
 cd "$work/crates/read_time"
 : > "$work/none"
 rt run < "$work/none" > /dev/null 2>&1 || true
-/usr/bin/time -f "%e s, %M KiB" out/read_time < "$work/script.js"
+/usr/bin/time -f "%U s of processor, %e s, %M KiB" out/read_time < "$work/script.js"
