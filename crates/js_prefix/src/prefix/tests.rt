@@ -95,15 +95,64 @@ fn is_cut(alloc: Global, row: &Row) -> Result<bool, Fail> {
     }
 }
 
+// A row's text is cut where it says, and goes on as it says.
+fn is_row(alloc: Global, row: &Row) -> Result<bool, Fail> {
+    let cut = is_cut(alloc, row)?;
+    Ok(cut && is_script(alloc, &[row.kept, row.rest])?)
+}
+
 #[test]
-fn cut_texts(rt: HostRuntime) -> Result<(), Fail> {
-    for row in &rows::ROWS {
-        assert!(rt; is_cut(rt.alloc(), row)?, "{}", row.kept);
-        assert!(rt;
-            is_script(rt.alloc(), &[row.kept, row.rest])?,
-            "{}",
-            row.kept
-        );
+fn cut_items(rt: HostRuntime) -> Result<(), Fail> {
+    for row in &rows::ITEMS {
+        assert!(rt; is_row(rt.alloc(), row)?, "{}", row.kept);
+    }
+    Ok(())
+}
+
+#[test]
+fn cut_first_statements(rt: HostRuntime) -> Result<(), Fail> {
+    for row in &rows::FIRST_STATEMENTS {
+        assert!(rt; is_row(rt.alloc(), row)?, "{}", row.kept);
+    }
+    Ok(())
+}
+
+#[test]
+fn cut_more_statements(rt: HostRuntime) -> Result<(), Fail> {
+    for row in &rows::MORE_STATEMENTS {
+        assert!(rt; is_row(rt.alloc(), row)?, "{}", row.kept);
+    }
+    Ok(())
+}
+
+#[test]
+fn cut_last_statements(rt: HostRuntime) -> Result<(), Fail> {
+    for row in &rows::LAST_STATEMENTS {
+        assert!(rt; is_row(rt.alloc(), row)?, "{}", row.kept);
+    }
+    Ok(())
+}
+
+#[test]
+fn cut_operators(rt: HostRuntime) -> Result<(), Fail> {
+    for row in &rows::OPERATORS {
+        assert!(rt; is_row(rt.alloc(), row)?, "{}", row.kept);
+    }
+    Ok(())
+}
+
+#[test]
+fn cut_operands(rt: HostRuntime) -> Result<(), Fail> {
+    for row in &rows::OPERANDS {
+        assert!(rt; is_row(rt.alloc(), row)?, "{}", row.kept);
+    }
+    Ok(())
+}
+
+#[test]
+fn cut_numbers(rt: HostRuntime) -> Result<(), Fail> {
+    for row in &rows::NUMBERS {
+        assert!(rt; is_row(rt.alloc(), row)?, "{}", row.kept);
     }
     Ok(())
 }

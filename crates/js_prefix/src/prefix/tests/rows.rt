@@ -12,9 +12,8 @@ pub struct Row {
     pub rest: &'static str,
 }
 
-/// Worked out by hand from the grammar.
-pub const ROWS: [Row; 184] = [
-    // Functions, variables and the call at the end.
+/// Functions, variables, the call at the end, and white space. Like all rows, worked out by hand from the grammar.
+pub const ITEMS: [Row; 24] = [
     Row {
         kept: "",
         lost: "x",
@@ -120,7 +119,6 @@ pub const ROWS: [Row; 184] = [
         lost: "=1;",
         rest: "();",
     },
-    // White space.
     Row {
         kept: " \n$s",
         lost: "\t();",
@@ -136,7 +134,10 @@ pub const ROWS: [Row; 184] = [
         lost: "\x0b;",
         rest: ";",
     },
-    // Statements.
+];
+
+/// Statements, the first third of their rows.
+pub const FIRST_STATEMENTS: [Row; 28] = [
     Row {
         kept: "function $s(){",
         lost: "-1;",
@@ -277,6 +278,10 @@ pub const ROWS: [Row; 184] = [
         lost: ";",
         rest: "();}$s();",
     },
+];
+
+/// Statements, the next third.
+pub const MORE_STATEMENTS: [Row; 28] = [
     Row {
         kept: "function $s(){[1]",
         lost: ";",
@@ -417,6 +422,10 @@ pub const ROWS: [Row; 184] = [
         lost: "{}",
         rest: "(1){}}$s();",
     },
+];
+
+/// Statements, the last third.
+pub const LAST_STATEMENTS: [Row; 28] = [
     Row {
         kept: "function $s(){if(",
         lost: ")",
@@ -557,7 +566,10 @@ pub const ROWS: [Row; 184] = [
         lost: "-$a[0];",
         rest: "$a[0];}$s();",
     },
-    // Operators.
+];
+
+/// Operators.
+pub const OPERATORS: [Row; 30] = [
     Row {
         kept: "function $s(){$f($a",
         lost: "{",
@@ -708,7 +720,10 @@ pub const ROWS: [Row; 184] = [
         lost: ";",
         rest: ");}$s();",
     },
-    // Operands.
+];
+
+/// Operands.
+pub const OPERANDS: [Row; 25] = [
     Row {
         kept: "function $s(){$f(t",
         lost: "ypeof $a",
@@ -834,7 +849,10 @@ pub const ROWS: [Row; 184] = [
         lost: "#",
         rest: "b);}$s();",
     },
-    // Numbers.
+];
+
+/// Numbers and strings.
+pub const NUMBERS: [Row; 21] = [
     Row {
         kept: "function $s(){$f(1",
         lost: "in $b",
@@ -880,7 +898,6 @@ pub const ROWS: [Row; 184] = [
         lost: ".5",
         rest: ");}$s();",
     },
-    // Strings.
     Row {
         kept: "function $s(){$f(",
         lost: "'a'",
