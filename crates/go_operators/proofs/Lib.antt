@@ -1,0 +1,4 @@
+pub mod Loops
+pub mod Only
+pub mod ScalarLemmas
+pub mod Steps
