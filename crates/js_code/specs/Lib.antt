@@ -1,0 +1,9 @@
+pub mod Parts
+pub mod Held
+pub mod ExprParts
+pub mod StmtParts
+pub mod FunctionCode
+pub mod PartClauses
+pub mod PartLaws
+pub mod ExprLaws
+pub mod StmtLaws
