@@ -1,0 +1,8 @@
+//! Laws on the definitions of the checker.
+//!
+//! The Go Programming Language Specification (as of Go 1.17), "Declarations and scope",
+//! "Packages". The definitions stand in `specs/` of `go_typing`, `go_statements` and
+//! `go_packages`; here is what holds of them.
+#![tactic(auto)]
+
+pub mod laws;
