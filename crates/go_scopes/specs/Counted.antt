@@ -1,0 +1,36 @@
+-- Own: what `iota` is held as.
+use Rattle.std.specs.Prelude.{◌≡◌, ℕ, pos, negsuc, List, Option, Some, None, codes, bytes_eq, if◌then◌else◌}
+use Rattle.std.specs.Coded.{Unit-prop, le_prop, Coded-set, coded_ℕ}
+use Rattle.go_const.specs.declared.constant.Const.TheVariants as form
+use Rattle.go_scopes.specs.declared.declared.Declared.{Declared}
+use Rattle.go_scopes.specs.declared.declared.Declared.TheVariants as as_
+
+-- an untyped integer constant that isn't negative
+abbrev pub CountsAs : Declared → Type 0
+CountsAs (as_.Const (form.Int (pos n)) t) = t.0 ≡ 4
+CountsAs _ = ⊥
+
+abbrev pub Counts : Option Declared → Type 0
+Counts None = Unit {0}
+Counts (Some d) = CountsAs d
+
+CountsAs-prop : (d : Declared) → IsProp (CountsAs d)
+CountsAs-prop (as_.Const (form.Int (pos n)) t) = Coded-set coded_ℕ _ _
+CountsAs-prop _ = λ a b. absurd a
+
+pub Counts-prop : (o : Option Declared) → IsProp (Counts o)
+Counts-prop None = Unit-prop
+Counts-prop (Some d) = CountsAs-prop d
+
+abbrev pub number_in : Declared → Option ℕ
+number_in (as_.Const (form.Int (pos n)) t) = Some n
+number_in _ = None
+
+-- the number of the constant specification
+abbrev pub number_of : Option Declared → Option ℕ
+number_of None = None
+number_of (Some d) = number_in d
+
+-- what the name stands for, if it is `iota`
+abbrev pub what_named : List ℕ → Option Declared → Option Declared
+what_named x o = if bytes_eq x (codes "iota") then o else None

@@ -1,0 +1,10 @@
+pub mod Held
+pub mod Holds
+pub mod View
+pub mod Counted
+pub mod EnvView
+pub mod Universe
+pub mod Whole
+pub mod Within
+pub mod Ready
+pub mod Props

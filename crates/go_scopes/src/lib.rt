@@ -1,0 +1,21 @@
+//! What the names of a program stand for: scopes as they are entered, left and filled, and the types
+//! that are declared.
+//!
+//! The Go Programming Language Specification (as of Go 1.17), "Blocks", "Declarations and scope",
+//! "Predeclared identifiers", "Integer literals", "Rune literals". The definitions stand in go_typing
+//! (`specs/Env.antt`, `specs/Scopes.antt`, `specs/Literal.antt`), and `specs/View.antt` leads to them.
+#![tactic(auto)]
+
+mod blocks;
+pub mod declared;
+pub mod env;
+mod iota;
+pub mod literal;
+mod packages;
+pub mod scope;
+#[cfg(test)]
+mod tests;
+mod universe;
+
+pub use declared::{Builtin, Declared};
+pub use env::Env;
