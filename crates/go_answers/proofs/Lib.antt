@@ -1,0 +1,4 @@
+pub mod FlawLemmas
+pub mod Numbers
+pub mod Steps
+pub mod TableBegins

@@ -1,0 +1,100 @@
+-- What the answers of the code stand for: those of the definitions, with types as trees.
+use Rattle.std.specs.Prelude.{List, [], ◌∷◌, map, None}
+use Rattle.go_type.specs.Tree.{Ty}
+use Rattle.go_type.specs.Tree as ty
+use Rattle.go_type.specs.Levels.{tree_of}
+use Rattle.go_core.specs.CoreTree as core
+use Rattle.go_core.specs.CoreView.{expr_view, exprs_view}
+use Rattle.go_typing.specs.Env as env
+use Rattle.go_typing.specs.Env.{nowhere}
+use Rattle.go_typing.specs.Answer.{Flaw, flaw, wrong, untyped_part, value, pending, type_, package_, built_in, blank, does, fixed, shifted, further, signed, joined}
+use Rattle.go_typing.specs.Answer as tree
+use Rattle.go_typing.specs.Operand.{typed, constant_operand, truth_operand, pending_operand, nil_operand, untyped_constant, truth_value, passed, unassignable, settled, unsettled}
+use Rattle.go_typing.specs.Operand as operands
+use Rattle.go_answers.specs.declared.answer.Flaw as flaws
+use Rattle.go_answers.specs.declared.answer.Flaws.{Flaws}
+use Rattle.go_answers.specs.declared.answer.Pending.{Pending, Pending-F, fold-Pending}
+use Rattle.go_answers.specs.declared.answer.Operand.{Operand}
+use Rattle.go_answers.specs.declared.answer.Operand.TheVariants as operand
+use Rattle.go_answers.specs.declared.answer.Builtin.{Builtin}
+use Rattle.go_answers.specs.declared.answer.Builtin.TheVariants as builtin
+use Rattle.go_answers.specs.declared.answer.Answer.{Answer}
+use Rattle.go_answers.specs.declared.answer.Answer.TheVariants as answer
+use Rattle.go_answers.specs.declared.answer.Passed.{Passed}
+use Rattle.go_answers.specs.declared.answer.Passed.TheVariants as «passes»
+use Rattle.go_answers.specs.declared.answer.Settled.{Settled}
+use Rattle.go_answers.specs.declared.answer.Settled.TheVariants as settles
+
+abbrev pub flaw_view : flaws.Flaw → Flaw
+flaw_view f = record { place = f.place; code = f.code; name = f.name }
+
+abbrev pub flaws_view : Flaws → List Flaw
+flaws_view fs = map flaw_view fs.items.items
+
+-- the first of faults, and those after it. There is one at least: what stands for none never comes.
+abbrev pub first_of : List Flaw → Flaw
+first_of [] = flaw nowhere 0
+first_of (f ∷ fs) = f
+
+abbrev pub others_of : List Flaw → List Flaw
+others_of [] = []
+others_of (f ∷ fs) = fs
+
+abbrev pub builtin_view : Builtin → env.Builtin
+builtin_view builtin.Append = env.Append
+builtin_view builtin.Cap = env.Cap
+builtin_view builtin.Close = env.Close
+builtin_view builtin.Complex = env.Complex
+builtin_view builtin.Copy = env.Copy
+builtin_view builtin.Delete = env.Delete
+builtin_view builtin.Imag = env.Imag
+builtin_view builtin.Len = env.Len
+builtin_view builtin.Make = env.Make
+builtin_view builtin.New = env.New
+builtin_view builtin.Panic = env.Panic
+builtin_view builtin.Print = env.Print
+builtin_view builtin.Println = env.Println
+builtin_view builtin.Real = env.Real
+builtin_view builtin.Recover = env.Recover
+
+-- with the trees of the table's ids
+module _ (ts : List Ty) where
+  abbrev pub pending_step : Pending-F tree.Pending → tree.Pending
+  pending_step (Pending-F.Fixed at k) = fixed at k
+  pending_step (Pending-F.Shifted at op k count) = shifted at op k (expr_view ts count)
+  pending_step (Pending-F.Further op p count) = further op p.value (expr_view ts count)
+  pending_step (Pending-F.Signed op p) = signed op p.value
+  pending_step (Pending-F.Joined op p q) = joined op p.value q.value
+
+  abbrev pub pending_view : Pending → tree.Pending
+  pending_view = fold-Pending tree.Pending pending_step
+
+  abbrev pub operand_view : Operand → operands.Operand
+  operand_view (operand.Typed f) = typed (expr_view ts f.core) (tree_of ts f.ty) f.value
+  operand_view (operand.Constant k) = constant_operand k
+  operand_view (operand.Truth c) = truth_operand (expr_view ts c)
+  operand_view (operand.Pending p b) = pending_operand (pending_view p) b
+  operand_view operand.Nil = nil_operand
+
+  abbrev pub answer_view : Answer → tree.Answer
+  answer_view (answer.Value f) = value (expr_view ts f.core) (tree_of ts f.ty) f.value
+  answer_view (answer.Constant k) = untyped_constant k
+  answer_view (answer.Truth c) = truth_value (expr_view ts c)
+  answer_view answer.Nil = value (core.zero_value ty.nil) ty.nil None
+  answer_view (answer.Pending p b) = pending (pending_view p) b
+  answer_view (answer.Type t) = type_ (tree_of ts t)
+  answer_view (answer.Package path) = package_ path
+  answer_view (answer.BuiltIn b) = built_in (builtin_view b)
+  answer_view answer.Blank = blank
+  answer_view (answer.Prints es ends_line) = does (core.print (exprs_view ts es) ends_line)
+  answer_view (answer.Wrong fs) = wrong (first_of (flaws_view fs)) (others_of (flaws_view fs))
+  answer_view answer.Unknown = untyped_part
+
+  abbrev pub passed_view : Passed → operands.Passed
+  passed_view («passes».Value c v) = passed (expr_view ts c) v
+  passed_view («passes».Refused fs) = operands.refused (first_of (flaws_view fs)) (others_of (flaws_view fs))
+  passed_view «passes».Unassignable = unassignable
+
+  abbrev pub settled_view : Settled → operands.Settled
+  settled_view (settles.Value f) = settled (expr_view ts f.core) (tree_of ts f.ty) f.value
+  settled_view (settles.Refused fs) = unsettled (first_of (flaws_view fs)) (others_of (flaws_view fs))

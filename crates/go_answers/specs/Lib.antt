@@ -1,0 +1,2 @@
+pub mod AnswerView
+pub mod Below
