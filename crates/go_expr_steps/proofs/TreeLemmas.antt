@@ -3,15 +3,11 @@ use Rattle.std.proofs.Common.{◌≡◌, ◌∙◌, ◌∷◌, ◌++◌, List, [
 use Rattle.std.proofs.lemmas.List.{map-append}
 use Rattle.std.proofs.Math.Path.{fun_ext}
 use Rattle.go_syntax.specs.Tree as t
-use Rattle.go_syntax.specs.View.{elem_view, expr_view, field_view, member_view}
+use Rattle.go_syntax.specs.View.{elem_view, expr_view}
 use Rattle.go_syntax.specs.declared.tree.Elem.{Elem}
 use Rattle.go_syntax.specs.declared.tree.Expr.{Expr}
-use Rattle.go_syntax.specs.declared.tree.Field.{Field}
-use Rattle.go_syntax.specs.declared.tree.Member.{Member}
-use Rattle.go_grammar.specs.Frames as f
-use Rattle.go_grammar.specs.ExprSteps as steps
 use Rattle.go_grammar.specs.Nodes.{and, maybe}
-use Rattle.go_frames.specs.FrameView.{expr_in_option, expr_perhaps, exprs_in, field_of}
+use Rattle.go_frames.specs.FrameView.{expr_in_option, expr_perhaps, exprs_in}
 
 -- the expression that may be there, in both spellings
 pub maybe_is : (x : Option Expr) → expr_perhaps x ≡ maybe (expr_in_option x)
@@ -28,23 +24,3 @@ and_expr xs all x e = ap exprs_in e ∙ map-append expr_view xs (x ∷ [])
 pub and_elem : (xs all : List Elem) (x : Elem) (key : Option Expr) (value : Expr) → all ≡ xs ++ x ∷ [] → ((rest : t.Elems) → elem_view x rest ≡ t.MoreElems (expr_perhaps key) (expr_view value) rest) → map elem_view all ≡ and (map elem_view xs) (λ rest. t.MoreElems (maybe (expr_in_option key)) (expr_view value) rest)
 and_elem xs all x key value e h =
     ap (map elem_view) e ∙ and_view elem_view xs x (λ rest. t.MoreElems (maybe (expr_in_option key)) (expr_view value) rest) (λ rest. h rest ∙ ap (λ (k : t.MaybeExpr). t.MoreElems k (expr_view value) rest) (maybe_is key))
-
--- a field put after those of a struct, whatever it is
-with_field_is : (x : f.StructPart) (u : steps.Untagged) (tag : Option (List ℕ)) → record x { fields = and x.fields (field_of u tag) } ≡ steps.with_field x u tag
-with_field_is x (steps.NamedOnes names e) tag = refl
-with_field_is x (steps.EmbeddedOne y) tag = refl
-
-pub and_field : (x : f.StructPart) (xs all : List Field) (field : Field) (u : steps.Untagged) (tag : Option (List ℕ)) → x.fields ≡ map field_view xs → all ≡ xs ++ field ∷ [] → ((rest : t.Fields) → field_view field rest ≡ field_of u tag rest) → record x { fields = map field_view all } ≡ steps.with_field x u tag
-and_field x xs all field u tag same e h =
-    ap (λ (fs : List (t.Fields → t.Fields)). record x { fields = fs })
-    (ap (map field_view) e ∙ and_view field_view xs field (field_of u tag) h ∙ ap (λ (fs : List (t.Fields → t.Fields)). and fs (field_of u tag)) (sym same))
-    ∙ with_field_is x u tag
-
-pub and_member : (x : f.InterfacePart) (xs all : List Member) (member : Member) → x.members ≡ map member_view xs → all ≡ xs ++ member ∷ [] → record x { members = map member_view all } ≡ steps.with_member x (member_view member)
-and_member x xs all member same e =
-    ap (λ (ms : List (t.Members → t.Members)). record x { members = ms })
-    (ap (map member_view) e ∙ map-append member_view xs (member ∷ []) ∙ ap (λ (ms : List (t.Members → t.Members)). and ms (member_view member)) (sym same))
-
--- a member whose view is known before each rest
-pub member_is : (x : f.InterfacePart) (member : Member) (part : t.Members → t.Members) → ((rest : t.Members) → member_view member rest ≡ part rest) → steps.with_member x (member_view member) ≡ steps.with_member x part
-member_is x member part h = ap (steps.with_member x) (fun_ext h)

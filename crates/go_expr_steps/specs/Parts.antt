@@ -1,14 +1,12 @@
 -- Parts of steps, where the code has a function of its own for them.
-use Rattle.std.specs.Prelude.{◌∷◌, [], ℕ, Bool, Option, Some, is_some, if◌then◌else◌}
-use Rattle.gj_base.specs.declared.place.Place.{Place}
+use Rattle.std.specs.Prelude.{◌∷◌, [], ℕ, Option, Some, is_some, if◌then◌else◌}
 use Rattle.go_syntax.specs.Tree as t
 use Rattle.go_syntax.specs.declared.operator.Operator.TheVariants as o
-use Rattle.go_syntax.specs.declared.tree.Name.{Name}
 use Rattle.go_grammar.specs.Frames as f
 use Rattle.go_syntax.specs.Token.{Token}
 use Rattle.go_grammar.specs.Context.{takes_literal}
-use Rattle.go_grammar.specs.ExprSteps.{close_literal, close_params, if_op, if_room, if_short}
-use Rattle.go_grammar.specs.Nodes.{and, place_of_expr}
+use Rattle.go_grammar.specs.ExprSteps.{close_literal, if_op, if_room, if_short}
+use Rattle.go_grammar.specs.Nodes.{place_of_expr}
 
 -- an expression before `:` is the key of an element that has none yet
 abbrev pub as_key : f.Braces → f.Elems → Option t.Expr → t.Expr → f.Stack → f.Flow
@@ -24,11 +22,3 @@ open_literal u c n e s =
     if takes_literal c.header e
     then if_room c (if_short n u.place (f.Goes (f.OfPart (f.InBraces (record { ctx = c; count = n; place = place_of_expr e; ty = Some e }) []) ∷ s)))
     else f.Over (f.AnExpr e) s
-
--- the list with one more parameter
-abbrev pub with_param : f.ParamsPart → Place → Option Name → Bool → t.Expr → f.ParamsPart
-with_param x at y variadic e = record x { items = and x.items (λ rest. t.MoreParams at y variadic e rest) }
-
--- after a parameter
-abbrev pub after_param : Token → f.ParamsPart → f.Stack → f.Flow
-after_param u x s = if_op o.Comma u (f.Goes (f.OfSig (f.InParams x) ∷ s)) (if_op o.RightParen u (close_params x x.role s) f.Stuck)

@@ -11,9 +11,9 @@ ghost use Rattle.go_grammar.specs.Classes.{name_of};
 ghost use Rattle.go_syntax.specs.View.{expr_view, elem_view, joined};
 ghost use Rattle.go_frames.specs.FrameView.{Comes, token_of, ctx_view, exprs_in, expr_in_option, base_view, braces_view, part_frame, stack_view};
 
-use crate::expr::{begin_expr, then_expr};
-use crate::types::{begin_type, selected};
 use gj_base::{NoMemory, Place};
+use go_begins::expr::{begin_expr, then_expr};
+use go_begins::types::{begin_type, selected};
 use go_ends::list::{and_elem, and_expr};
 use go_ends::lost::{lost, lost_at, lost_braces};
 use go_ends::lost_part::lost_elems;

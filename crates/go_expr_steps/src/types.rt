@@ -1,116 +1,27 @@
 //! Types, but for the fields and members in their braces.
 
-ghost use Rattle.std.specs.Prelude.{◌≡◌, ◌∷◌, [], IfOk};
+ghost use Rattle.std.specs.Prelude.{[]};
 ghost use Rattle.go_syntax.specs.Tree as t;
 ghost use Rattle.go_syntax.specs.declared.tree.Prefix.TheVariants as «prefix»;
 ghost use Rattle.go_grammar.specs.Frames as f;
 ghost use Rattle.go_grammar.specs.ExprSteps as steps;
 ghost use Rattle.go_grammar.specs.Nodes as nodes;
-ghost use Rattle.go_grammar.specs.Classes.{name_of};
 ghost use Rattle.go_syntax.specs.View.{expr_view, sig_view};
 ghost use Rattle.go_frames.specs.FrameView.{Comes, token_of, ctx_view, expr_in_option, type_frame, stack_view};
 
-use crate::expr::begin_expr;
-use gj_base::{NoMemory, Place};
+use gj_base::Place;
+use go_begins::expr::begin_expr;
+use go_begins::types::{begin_type, selected, then_type};
 use go_ends::lost::lost;
-use go_ends::lost_part::lost_expr;
-use go_ends::refused::{deep, deep_at, stuck, stuck_at, stuck_with};
+use go_ends::refused::{deep, stuck, stuck_at, stuck_with};
 use go_frames::at::At;
 use go_frames::ctx::Ctx;
-use go_frames::frame::{FieldFrame, Frame, InterfacePart, SigFrame, StructPart, TypeFrame, Value};
-use go_frames::node::{
-    array_type, chan_type, function_type, map_type, name, name_expr, paren, select, slice_type,
-    star,
-};
+use go_frames::frame::{FieldFrame, Frame, InterfacePart, StructPart, TypeFrame, Value};
+use go_frames::node::{array_type, chan_type, function_type, map_type, paren, slice_type, star};
 use go_frames::stack::{Answer, Stack, done, goes, over};
 use go_syntax::tree::{ChanDir, Expr, Sig};
-use go_syntax::{Keyword, Operator, TokenKind};
+use go_syntax::{Keyword, Operator};
 use std::alloc::Global;
-
-/// Takes the token, after which a type comes.
-pub fn then_type(c: Ctx, stack: Stack) -> Answer
-    ensures value { Comes result (steps.then_type (ctx_view c) (stack_view stack)) }
-{
-    goes(stack, Frame::Type(TypeFrame::Type(c)))
-}
-
-/// A type that begins with the token.
-pub fn begin_type(alloc: Global, at: At, text: &[u8], c: Ctx, stack: Stack) -> Answer
-    ensures value { Comes result (steps.begin_type (token_of at text.now) (ctx_view c) (stack_view stack)) }
-{
-    match at.kind {
-        TokenKind::Op(_) => begin_type_op(at, c, stack),
-        TokenKind::Word(word) => begin_type_word(at, word, c, stack),
-        TokenKind::Name => begin_named(alloc, at, text, stack),
-        _ => stuck(stack),
-    }
-}
-
-/// The name of a type, or of its package.
-fn begin_named(alloc: Global, at: At, text: &[u8], stack: Stack) -> Answer
-    ensures value { Comes result (f.Goes (f.OfType (f.TypeName (nodes.name_expr (name_of (token_of at text.now)))) ∷ stack_view stack)) }
-{
-    match name(alloc, at.place, text) {
-        Ok(name) => goes(stack, Frame::Type(TypeFrame::Name(name_expr(name)))),
-        Err(error) => lost(error, stack),
-    }
-}
-
-fn begin_type_op(at: At, c: Ctx, stack: Stack) -> Answer
-    ensures value { Comes result (steps.begin_type_op (token_of at []) (ctx_view c) (stack_view stack)) }
-{
-    if at.is(Operator::LeftParen) {
-        return inner_type(c, TypeFrame::Paren(at.place), stack);
-    }
-    if at.is(Operator::Mul) {
-        return inner_type(c, TypeFrame::Star(at.place), stack);
-    }
-    if at.is(Operator::LeftBracket) {
-        return opened(c, TypeFrame::Bracket(c, at.place), stack);
-    }
-    if at.is(Operator::Arrow) {
-        return opened(c, TypeFrame::Arrow(c.inside(), at.place), stack);
-    }
-    stuck(stack)
-}
-
-/// Where one more may be open, the frame, and a type in it.
-fn inner_type(c: Ctx, frame: TypeFrame, stack: Stack) -> Answer
-    ensures value { Comes result (steps.if_room (ctx_view c) (steps.then_type (f.inside (ctx_view c)) (f.OfType (type_frame frame) ∷ (stack_view stack)))) }
-{
-    if !c.has_room() {
-        return deep_at(Frame::Type(frame), stack);
-    }
-    let stack = stack.with(Frame::Type(frame))?;
-    then_type(c.inside(), stack)
-}
-
-/// Where one more may be open, the frame.
-fn opened(c: Ctx, frame: TypeFrame, stack: Stack) -> Answer
-    ensures value { Comes result (steps.if_room (ctx_view c) (f.Goes (f.OfType (type_frame frame) ∷ (stack_view stack)))) }
-{
-    if !c.has_room() {
-        return deep_at(Frame::Type(frame), stack);
-    }
-    goes(stack, Frame::Type(frame))
-}
-
-/// A type that begins with a keyword.
-pub fn begin_type_word(at: At, word: Keyword, c: Ctx, stack: Stack) -> Answer
-    ensures value { Comes result (steps.begin_type_word (token_of at []) word (ctx_view c) (stack_view stack)) }
-{
-    match word {
-        Keyword::Func => {
-            let stack = stack.with(Frame::Type(TypeFrame::Func(at.place)))?;
-            goes(stack, Frame::Sig(SigFrame::Open(c)))
-        }
-        Keyword::Map => goes(stack, Frame::Type(TypeFrame::Map(c, at.place))),
-        Keyword::Chan => opened(c, TypeFrame::Chan(c.inside(), at.place), stack),
-        Keyword::Struct => goes(stack, Frame::Type(TypeFrame::Struct(c, at.place))),
-        Keyword::Interface => goes(stack, Frame::Type(TypeFrame::Interface(c, at.place))),
-        _ => stuck(stack),
-    }
-}
 
 /// What the top frame does at the token.
 pub fn type_row(alloc: Global, at: At, text: &[u8], frame: TypeFrame, stack: Stack) -> Answer
@@ -152,18 +63,6 @@ fn type_dot(alloc: Global, at: At, text: &[u8], e: Expr, stack: Stack) -> Answer
     }
 }
 
-/// `e.x`, x being the token.
-pub fn selected(alloc: Global, at: At, text: &[u8], e: Expr) -> Result<Expr, NoMemory>
-    ensures value { IfOk result (λ x. expr_view x ≡ nodes.select (expr_view e) (name_of (token_of at text.now))) }
-{
-    let name = match name(alloc, at.place, text) {
-        Ok(name) => name,
-        Err(error) => return lost_expr(error, e),
-    };
-    let e = select(alloc, e, name)?;
-    Ok(e)
-}
-
 fn type_bracket(alloc: Global, at: At, text: &[u8], c: Ctx, place: Place, stack: Stack) -> Answer
     ensures value { Comes result (steps.type_row (token_of at text.now) (f.TypeBracket (ctx_view c) place) (stack_view stack)) }
 {
@@ -194,7 +93,11 @@ fn type_map(at: At, c: Ctx, place: Place, stack: Stack) -> Answer
     if !at.is(Operator::LeftBracket) {
         return stuck(stack);
     }
-    inner_type(c, TypeFrame::Key(c, place), stack)
+    if !c.has_room() {
+        return deep(stack);
+    }
+    let stack = stack.with(Frame::Type(TypeFrame::Key(c, place)))?;
+    then_type(c.inside(), stack)
 }
 
 fn type_chan(alloc: Global, at: At, text: &[u8], c: Ctx, place: Place, stack: Stack) -> Answer
@@ -214,7 +117,11 @@ fn type_arrow(at: At, c: Ctx, place: Place, stack: Stack) -> Answer
     if !at.is_word(Keyword::Chan) {
         return stuck(stack);
     }
-    inner_type(c, TypeFrame::Receive(place), stack)
+    if !c.has_room() {
+        return deep(stack);
+    }
+    let stack = stack.with(Frame::Type(TypeFrame::Receive(place)))?;
+    then_type(c.inside(), stack)
 }
 
 fn type_struct(alloc: Global, at: At, c: Ctx, place: Place, stack: Stack) -> Answer

@@ -17,6 +17,3 @@ mod step;
 mod text;
 
 pub use lexer::lex;
-
-#[cfg(test)]
-mod tests;

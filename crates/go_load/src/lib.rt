@@ -16,6 +16,3 @@ mod sources;
 pub use loading::load;
 pub use packages::{LoadRefusal, Package, Packages, Paths};
 pub use sources::{FileEntry, Sources};
-
-#[cfg(test)]
-mod tests;

@@ -6,25 +6,27 @@ ghost use Rattle.go_frames.specs.FrameView.{Comes, token_of, exprs_in, value_vie
 ghost use Rattle.go_grammar.specs.Parsed as all;
 
 use crate::file::{file_meets_block, file_meets_decl, file_meets_sig, file_row};
+use go_control_steps::control::{
+    control_meets_block, control_meets_expr, control_meets_ranging, control_meets_stmt, control_row,
+};
+use go_control_steps::switch::{
+    switch_meets_expr, switch_meets_guard, switch_meets_stmt, switch_row,
+};
 use go_ends::file::{stuck_below, unnamed};
 use go_ends::refused::stuck_with;
 use go_expr_steps::expr::{body_meets, chain_meets, expr_meets, expr_row, func_meets, guard_meets};
-use go_expr_steps::field::{field_meets, field_row, method_meets};
 use go_expr_steps::part::{part_meets, part_row};
-use go_expr_steps::sig::{sig_meets, sig_row};
 use go_expr_steps::types::{type_meets, type_row, type_sig_meets};
+use go_field_steps::field::{field_meets, field_row, method_meets};
+use go_field_steps::sig::{sig_meets, sig_row};
 use go_frames::at::At;
 use go_frames::frame::{Frame, Value};
 use go_frames::stack::{Answer, Flow, Stack, over};
 use go_simple_steps::decl::{decl_meets_expr, decl_row};
 use go_simple_steps::simple::guard_in_simple;
-use go_stmt_steps::control::{
-    control_meets_block, control_meets_expr, control_meets_ranging, control_meets_stmt, control_row,
-};
 use go_stmt_steps::stmt::{
     stmt_meets_block, stmt_meets_decl, stmt_meets_expr, stmt_meets_stmt, stmt_row,
 };
-use go_stmt_steps::switch::{switch_meets_expr, switch_meets_guard, switch_meets_stmt, switch_row};
 use go_syntax::tree::{Block, Decl, Expr, Name, Sig, Stmt};
 use std::alloc::Global;
 

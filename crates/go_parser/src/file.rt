@@ -8,18 +8,18 @@ ghost use Rattle.go_syntax.specs.View.{sig_view, block_view, decl_view, import_v
 ghost use Rattle.go_frames.specs.FrameView.{Comes, token_of, receiver_in, file_part, file_frame, stack_view};
 
 use gj_base::{NoMemory, Place, Text};
+use go_begins::decl::begin_decl;
 use go_ends::file::{lost_decl, lost_func, lost_import, lost_path, stuck_func};
 use go_ends::list::{and_decl, and_import};
 use go_ends::lost::{lost, lost_at};
 use go_ends::refused::{stuck, stuck_at, stuck_with};
-use go_expr_steps::sig::open_params;
+use go_field_steps::sig::open_params;
 use go_frames::at::At;
 use go_frames::ctx::Ctx;
 use go_frames::form::{func_decl, method_decl};
 use go_frames::frame::{FileFrame, FilePart, Frame, ParamList, Role, SigFrame, Value};
 use go_frames::node::name;
 use go_frames::stack::{Answer, Stack, goes, open_block, over};
-use go_simple_steps::decl::begin_decl;
 use go_syntax::tree::{Block, Decl, File, Import, Name, Sig};
 use go_syntax::{Keyword, Operator, TokenKind};
 use std::alloc::Global;

@@ -10,6 +10,3 @@ mod file;
 mod run;
 
 pub use run::parse;
-
-#[cfg(test)]
-mod tests;

@@ -1,7 +1,6 @@
 -- What the code asks of lists of expressions in its own way.
 use Rattle.std.specs.Prelude.{◌≢◌}
 use Rattle.std.proofs.Common.{◌≡◌, false, List, [], ◌∷◌, ◌++◌, Some, None, length, get_or, map, refl, sym, ap, ◌∙◌, is_some, arith}
-use Rattle.std.proofs.lemmas.List.{map_push}
 use Rattle.go_syntax.specs.Tree as t
 use Rattle.go_syntax.specs.View.{expr_view}
 use Rattle.go_syntax.specs.declared.tree.Expr.{Expr}
@@ -47,7 +46,3 @@ pub not_one_name : (xs : List Expr) → length xs ≢ 1 → is_one_name (exprs_i
 not_one_name [] n = refl
 not_one_name (y ∷ []) n = absurd (n refl)
 not_one_name (y ∷ z ∷ xs) n = refl
-
--- the views of some parts and of one more, whose view is known before each rest
-pub more_views : {X Y : Type 0} (f : X → Y → Y) (xs all : List X) (x : X) (g : Y → Y) → all ≡ xs ++ x ∷ [] → ((rest : Y) → f x rest ≡ g rest) → map f all ≡ map f xs ++ g ∷ []
-more_views f xs all x g e h = ap (map f) e ∙ map_push f xs x ∙ ap (λ z. map f xs ++ z ∷ []) (λ i rest. h rest i)

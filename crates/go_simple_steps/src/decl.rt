@@ -9,45 +9,22 @@ ghost use Rattle.go_grammar.specs.StmtSteps as rows;
 ghost use Rattle.go_frames.specs.FrameView.{Comes, token_of, exprs_in, expr_perhaps, values_part, types_part, decl_frame, stack_view};
 ghost use Rattle.go_simple_steps.specs.Parts.{after_values, after_spec, after_type};
 
-use crate::lists::{with_expr, with_type, with_values};
 use gj_base::NoMemory;
+use go_begins::expr::then_expr;
+use go_begins::lists::{with_expr, with_type, with_values};
+use go_begins::types::{begin_type, then_type};
 use go_ends::list::{and_name, only_name};
 use go_ends::lost::{lost, lost_at};
 use go_ends::refused::{stuck_at, stuck_with};
-use go_expr_steps::expr::then_expr;
-use go_expr_steps::types::{begin_type, then_type};
 use go_frames::at::{At, begins_type};
 use go_frames::ctx::Ctx;
 use go_frames::form::{const_decl, type_decl, var_decl};
 use go_frames::frame::{DeclFrame, Frame, TypesPart, Value, ValuesPart};
 use go_frames::node::name;
 use go_frames::stack::{Answer, Stack, done, goes, over};
+use go_syntax::Operator;
 use go_syntax::tree::{Decl, Expr, Name};
-use go_syntax::{Keyword, Operator};
 use std::alloc::Global;
-
-/// `const`, `type` or `var`.
-pub fn begin_decl(alloc: Global, at: At, blocks: u32, stack: Stack) -> Answer
-    ensures value { Comes result (rows.begin_decl (token_of at []) blocks (stack_view stack)) }
-{
-    if at.is_word(Keyword::Type) {
-        let part = TypesPart {
-            blocks,
-            place: at.place,
-            group: false,
-            specs: Vec::new(alloc),
-        };
-        return goes(stack, Frame::Decl(DeclFrame::Types(part)));
-    }
-    let part = ValuesPart {
-        blocks,
-        place: at.place,
-        constant: at.is_word(Keyword::Const),
-        group: false,
-        specs: Vec::new(alloc),
-    };
-    goes(stack, Frame::Decl(DeclFrame::Values(part)))
-}
 
 /// What the top frame does at the token.
 pub fn decl_row(alloc: Global, at: At, text: &[u8], frame: DeclFrame, stack: Stack) -> Answer

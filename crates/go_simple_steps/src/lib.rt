@@ -3,5 +3,4 @@
 #![tactic(auto)]
 
 pub mod decl;
-pub mod lists;
 pub mod simple;

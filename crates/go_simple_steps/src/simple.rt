@@ -1,23 +1,24 @@
 //! Simple statements, in lists of statements and in headers.
 
-ghost use Rattle.std.specs.Prelude.{◌≡◌, ◌∷◌, ◌&&◌, [], Some, None, true, false, is_some};
+ghost use Rattle.std.specs.Prelude.{◌≡◌, ◌∷◌, ◌&&◌, [], Some, true, is_some};
 ghost use Rattle.go_syntax.specs.Tree as t;
-ghost use Rattle.go_syntax.specs.View.{expr_view, exprs_of};
 ghost use Rattle.go_grammar.specs.Frames as f;
 ghost use Rattle.go_grammar.specs.ExprSteps as steps;
 ghost use Rattle.go_grammar.specs.StmtSteps as rows;
 ghost use Rattle.go_grammar.specs.Limits as limits;
+ghost use Rattle.go_syntax.specs.View.{expr_view, exprs_of};
 ghost use Rattle.go_frames.specs.FrameView.{Comes, token_of, ctx_view, exprs_in, mode_view, spot_view, stmt_frame, stack_view};
 ghost use Rattle.go_simple_steps.specs.Parts.{after_tag, after_listed, end_tag, end_assigned, end_defined};
 
-use crate::lists::with_expr;
 use gj_base::{Op, Place};
+use go_begins::expr::{begin_expr, then_expr};
+use go_begins::lists::with_expr;
+use go_begins::simple::takes_guard;
 use go_ends::lost::{lost, lost_at};
 use go_ends::refused::{long_at, stuck, stuck_at, stuck_with};
 use go_ends::stmt::drop_exprs;
-use go_expr_steps::expr::{begin_expr, then_expr};
 use go_frames::at::{At, assign_of};
-use go_frames::ctx::{Ctx, LONGEST, one_more};
+use go_frames::ctx::{LONGEST, one_more};
 use go_frames::form::{assign, define, exprs_stmt, increment, only_one, send};
 use go_frames::frame::{Frame, Mode, Spot, StmtFrame, Value};
 use go_frames::node::{into_name, is_name};
@@ -38,30 +39,10 @@ fn is_for(mode: Mode) -> bool
     matches!(mode, Mode::For)
 }
 
-/// Whether a guard of a type switch may stand there.
-fn takes_guard(mode: Mode) -> bool
-    ensures value { result ≡ rows.takes_guard (mode_view mode) }
-{
-    matches!(mode, Mode::Switch | Mode::Tag)
-}
-
 fn is_statement(mode: Mode) -> bool
     ensures value { result ≡ rows.is_listed (mode_view mode) }
 {
     matches!(mode, Mode::Stmt(_))
-}
-
-/// A simple statement that begins with the token.
-pub fn begin_simple(alloc: Global, at: At, text: &[u8], c: Ctx, mode: Mode, stack: Stack) -> Answer
-    ensures value { Comes result (rows.begin_simple (token_of at text.now) (ctx_view c) (mode_view mode) (stack_view stack)) }
-{
-    let spot = Spot {
-        ctx: c,
-        mode,
-        place: at.place,
-    };
-    let stack = stack.with(Frame::Stmt(StmtFrame::Simple(spot, Vec::new(alloc))))?;
-    begin_expr(alloc, at, text, c.with_guard(takes_guard(mode)), stack)
 }
 
 /// After an expression on the left, or alone.

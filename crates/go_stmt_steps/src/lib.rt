@@ -1,7 +1,4 @@
-//! What the frames of statements do at a token, and with the tree that they waited for, but for those
-//! of simple statements.
+//! What the frames of statements without a header do at a token, and with the tree that they waited for.
 #![tactic(auto)]
 
-pub mod control;
 pub mod stmt;
-pub mod switch;

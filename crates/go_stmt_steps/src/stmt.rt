@@ -1,100 +1,31 @@
 //! Statements: Block, List and Stmt, but for Simple and those with a header.
 
-ghost use Rattle.std.specs.Prelude.{◌≡◌, ◌∷◌, [], true, false};
+ghost use Rattle.std.specs.Prelude.{[]};
 ghost use Rattle.go_syntax.specs.Tree as t;
-ghost use Rattle.go_syntax.specs.View.{expr_view, exprs_of, block_view, stmt_view, decl_view};
 ghost use Rattle.go_grammar.specs.Frames as f;
-ghost use Rattle.go_grammar.specs.ExprSteps as steps;
 ghost use Rattle.go_grammar.specs.StmtSteps as rows;
+ghost use Rattle.go_syntax.specs.View.{expr_view, block_view, stmt_view, decl_view};
 ghost use Rattle.go_frames.specs.FrameView.{Comes, token_of, exprs_in, stmts_in, stmt_frame, stack_view};
 ghost use Rattle.go_stmt_steps.specs.Parts.{end_return};
 
-use crate::control::{begin_for, begin_if};
 use gj_base::Place;
-use go_ends::lost::{lost, lost_at};
+use go_begins::expr::{begin_expr, then_expr};
+use go_begins::lists::{with_expr, with_stmt};
+use go_begins::stmt::begin_stmt;
+use go_ends::lost::lost;
 use go_ends::refused::{stuck_at, stuck_with};
-use go_expr_steps::expr::{begin_expr, then_expr};
 use go_frames::at::{At, begins_expr, begins_stmt};
 use go_frames::ctx::Ctx;
 use go_frames::form::{
-    block, block_stmt, break_to, decl_stmt, defer, empty, fall_through, go, labeled, return_stmt,
+    block, block_stmt, break_to, decl_stmt, defer, empty, go, labeled, return_stmt,
 };
-use go_frames::frame::{Frame, Mode, StmtFrame, SwitchFrame, Value};
+use go_frames::frame::{Frame, StmtFrame, Value};
 use go_frames::node::name;
-use go_frames::stack::{Answer, Stack, done, goes, open_block, over};
-use go_simple_steps::decl::begin_decl;
-use go_simple_steps::lists::{with_expr, with_stmt};
-use go_simple_steps::simple::{
-    after_assigned, after_defined, after_left, after_sent, begin_simple, right_side,
-};
+use go_frames::stack::{Answer, Stack, done, goes, over};
+use go_simple_steps::simple::{after_assigned, after_defined, after_left, after_sent, right_side};
+use go_syntax::Operator;
 use go_syntax::tree::{Block, Decl, Expr, Name, Stmt};
-use go_syntax::{Keyword, Operator, TokenKind};
 use std::alloc::Global;
-
-/// A statement that begins with the token, after so many labels.
-pub fn begin_stmt(
-    alloc: Global,
-    at: At,
-    text: &[u8],
-    blocks: u32,
-    labels: u32,
-    stack: Stack,
-) -> Answer
-    ensures value { Comes result (rows.begin_stmt (token_of at text.now) blocks labels (stack_view stack)) }
-{
-    if at.is(Operator::LeftBrace) {
-        let stack = stack.with(Frame::Stmt(StmtFrame::Inner))?;
-        return open_block(alloc, at, blocks, stack);
-    }
-    match at.kind {
-        TokenKind::Word(word) => begin_with_word(alloc, at, text, word, blocks, stack),
-        _ => begin_simple(alloc, at, text, Ctx::new(blocks), Mode::Stmt(labels), stack),
-    }
-}
-
-fn begin_with_word(
-    alloc: Global,
-    at: At,
-    text: &[u8],
-    word: Keyword,
-    blocks: u32,
-    stack: Stack,
-) -> Answer
-    ensures value { Comes result (rows.begin_word_stmt (token_of at text.now) word blocks (stack_view stack)) }
-{
-    match word {
-        Keyword::Const => declared(alloc, at, blocks, stack),
-        Keyword::Type => declared(alloc, at, blocks, stack),
-        Keyword::Var => declared(alloc, at, blocks, stack),
-        Keyword::Go => then_called(StmtFrame::Go(at.place), blocks, stack),
-        Keyword::Defer => then_called(StmtFrame::Defer(at.place), blocks, stack),
-        Keyword::Return => goes(stack, Frame::Stmt(StmtFrame::Return(blocks, at.place))),
-        Keyword::Break => goes(stack, Frame::Stmt(StmtFrame::Break(at.place))),
-        Keyword::Continue => goes(stack, Frame::Stmt(StmtFrame::Continue(at.place))),
-        Keyword::Fallthrough => done(stack, Value::Stmt(fall_through(at.place))),
-        Keyword::If => begin_if(at, blocks, stack),
-        Keyword::For => begin_for(at, blocks, stack),
-        Keyword::Switch => goes(stack, Frame::Switch(SwitchFrame::Head(blocks, at.place))),
-        Keyword::Select => goes(stack, Frame::Switch(SwitchFrame::Select(blocks, at.place))),
-        _ => begin_simple(alloc, at, text, Ctx::new(blocks), Mode::Header, stack),
-    }
-}
-
-/// A declaration in a list of statements.
-fn declared(alloc: Global, at: At, blocks: u32, stack: Stack) -> Answer
-    ensures value { Comes result (rows.begin_decl (token_of at []) blocks (f.OfStmt f.Declared ∷ stack_view stack)) }
-{
-    let stack = stack.with(Frame::Stmt(StmtFrame::Decl))?;
-    begin_decl(alloc, at, blocks, stack)
-}
-
-/// After `go` or `defer`.
-fn then_called(frame: StmtFrame, blocks: u32, stack: Stack) -> Answer
-    ensures value { Comes result (steps.then_expr (f.new_ctx blocks) (f.OfStmt (stmt_frame frame) ∷ stack_view stack)) }
-{
-    let stack = stack.with(Frame::Stmt(frame))?;
-    then_expr(Ctx::new(blocks), stack)
-}
 
 /// What the top frame does at the token.
 pub fn stmt_row(alloc: Global, at: At, text: &[u8], frame: StmtFrame, stack: Stack) -> Answer
