@@ -4,7 +4,7 @@ set -e
 here=$(cd "$(dirname "$0")" && pwd)
 work=$(mktemp -d)
 trap 'rm -rf "$work"' EXIT
-below='gj_base go_syntax go_lexer go_grammar go_frames go_ends go_expr_steps go_simple_steps go_stmt_steps go_parser'
+below='gj_base go_syntax go_lexer go_grammar go_frames go_ends go_begins go_expr_steps go_field_steps go_simple_steps go_stmt_steps go_control_steps go_parser'
 
 # What `rt check` and `rt lib` have built of the crates is copied with them, so that it isn't built anew.
 mkdir -p "$work/crates/parse_time/src"

@@ -7,8 +7,6 @@ pub mod function;
 pub mod laws;
 pub mod part;
 pub mod stmt;
-#[cfg(test)]
-mod tests;
 
 pub use code::Code;
 pub use expr::{DEPTH, add_expr};

@@ -10,6 +10,4 @@ pub mod names;
 pub mod operate;
 pub mod start;
 pub mod state;
-#[cfg(test)]
-mod tests;
 pub mod world;

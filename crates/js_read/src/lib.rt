@@ -51,6 +51,3 @@ fn read_script(alloc: Global, bytes: &[u8]) -> Result<Script, ReadRefusal>
     let tokens = tokens(alloc, bytes, front.len())?;
     whole(alloc, tokens.as_slice())
 }
-
-#[cfg(test)]
-mod tests;

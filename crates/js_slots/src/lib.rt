@@ -5,5 +5,3 @@
 pub mod laws;
 pub mod names;
 pub mod place;
-#[cfg(test)]
-mod tests;

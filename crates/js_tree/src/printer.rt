@@ -11,8 +11,6 @@ mod item;
 mod level;
 mod simple;
 mod stmt;
-#[cfg(test)]
-mod tests;
 mod text;
 mod words;
 

@@ -6,6 +6,4 @@ pub mod entries;
 pub mod heap;
 pub mod number;
 pub mod operate;
-#[cfg(test)]
-mod tests;
 pub mod value;

@@ -1,13 +1,13 @@
 //! Rows of operators between numbers, and each call that takes memory once.
 
-use crate::arithmetic::in_range;
-use crate::entries;
-use crate::heap::{self, Object};
-use crate::number::Number;
-use crate::operate::{decimal_text, on_numbers, on_values, one_byte, part_of};
-use crate::value::{Str, Value};
 use gj_base::Text;
 use js_tree::BinaryOp;
+use js_value::arithmetic::in_range;
+use js_value::entries;
+use js_value::heap::{self, Object};
+use js_value::number::Number;
+use js_value::operate::{decimal_text, on_numbers, on_values, one_byte, part_of};
+use js_value::value::{Str, Value};
 use std::alloc::Global;
 use std::process::Abort;
 use std::rc::Rc;

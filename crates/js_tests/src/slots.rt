@@ -1,8 +1,8 @@
 //! The places of the names of one small script, worked out by hand.
 
-use crate::names::{functions_in, globals_in, locals_in};
-use crate::place::{Host, Place, Scope, place_of, target_of};
 use gj_base::Text;
+use js_slots::names::{functions_in, globals_in, locals_in};
+use js_slots::place::{Host, Place, Scope, place_of, target_of};
 use js_tree::{ExprForm, JsExpr, JsFunction, JsItem, JsStmt, JsStmts, StmtForm};
 use std::alloc::Global;
 use std::process::Abort;

@@ -1,10 +1,10 @@
 //! The parts of small trees, numbered by hand.
 
-use crate::code::Code;
-use crate::expr::add_expr;
-use crate::function::{function_code, value_code};
-use crate::part::Part;
 use gj_base::Text;
+use js_code::code::Code;
+use js_code::expr::add_expr;
+use js_code::function::{function_code, value_code};
+use js_code::part::Part;
 use js_slots::names::Names;
 use js_slots::place::Scope;
 use js_tree::{

@@ -6,11 +6,11 @@ ghost use Rattle.js_tree.specs.Script.{name, string, call, expr, no_exprs, perfo
 ghost use Rattle.js_tree.specs.View.{expr_view, exprs_view, stmts_view, script_view};
 ghost use Rattle.gj_base.specs.Sink.{SinkState};
 
-use super::{PREAMBLE, PrintRefusal, Style, print, printed};
-use crate::tree::{
+use gj_base::{NoMemory, Sink, SinkError, Text};
+use js_tree::tree::{
     ExprForm, JsExpr, JsExprs, JsFunction, JsItem, JsStmt, JsStmts, Script, StmtForm,
 };
-use gj_base::{NoMemory, Sink, SinkError, Text};
+use js_tree::{PREAMBLE, PrintRefusal, Style, print, printed};
 use std::alloc::Global;
 use std::test::Fail;
 

@@ -1,27 +1,10 @@
-//! Rows of scripts.
+//! Rows of scripts that are read, and of texts that are none.
 
-use crate::{ReadRefusal, read};
+use crate::source::{read_after_preamble, read_bytes};
+use js_read::ReadRefusal;
 use js_tree::{PREAMBLE, Script};
 use std::alloc::{AllocError, Global};
 use std::test::Fail;
-
-/// What is read of bytes, of which there are not too many.
-fn read_bytes(alloc: Global, bytes: &[u8]) -> Result<Script, ReadRefusal> {
-    if bytes.len() >= 4294967295 {
-        return Err(ReadRefusal::NoMemory);
-    }
-    read(alloc, bytes)
-}
-
-/// A text after the preamble, read.
-fn read_after_preamble(
-    alloc: Global,
-    body: &[u8],
-) -> Result<Result<Script, ReadRefusal>, AllocError> {
-    let mut bytes = PREAMBLE.to_vec(alloc)?;
-    bytes.extend_from_slice(body)?;
-    Ok(read_bytes(alloc, bytes.as_slice()))
-}
 
 /// A text with its start called.
 fn read_body(alloc: Global, body: &[u8]) -> Result<Result<Script, ReadRefusal>, AllocError> {

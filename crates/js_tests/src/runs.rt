@@ -1,18 +1,21 @@
 //! Runs of the rows of bench/engines, whose prints and ends were worked out by hand and are those
 //! of node and mujs.
 
-mod build;
-mod rows_1;
-mod rows_2;
-mod rows_3;
-mod rows_4;
-
-use crate::start::{RunRefusal, ScriptRun, run};
-use crate::state::End;
-use build::{Row, script};
+use crate::row::Row;
+use crate::source::read_after_preamble;
+use crate::{rows_1, rows_2, rows_3, rows_4};
+use js_eval::start::{RunRefusal, ScriptRun, run};
+use js_eval::state::End;
+use js_tree::Script;
 use std::alloc::Global;
 use std::process::Abort;
 use std::test::Fail;
+
+// The script of a text.
+fn script(alloc: Global, body: &str) -> Result<Script, Fail> {
+    let script = read_after_preamble(alloc, body.as_bytes())??;
+    Ok(script)
+}
 
 // A run of a row's script ends as the row says.
 fn ends_as(run: &ScriptRun, row: &Row) -> bool {
@@ -23,7 +26,7 @@ fn ends_as(run: &ScriptRun, row: &Row) -> bool {
 }
 
 fn runs_as(rt: &impl Abort, alloc: Global, row: &Row) -> Result<(), Fail> {
-    let script = script(alloc, row.words)?;
+    let script = script(alloc, row.body)?;
     let run = run(alloc, &script, row.choices, 1000000, 100)?;
     assert_eq!(rt; run.printed.as_slice(), row.printed, "{}", row.name);
     assert!(rt; ends_as(&run, row), "{}", row.name);
@@ -58,8 +61,7 @@ fn rows_46_to_60(rt: HostRuntime) -> Result<(), Fail> {
 }
 
 // A function that calls itself, for ever.
-const ENDLESS: &str =
-    "x:$f call:0 perform block:1 function:$f: x:$f call:0 perform block:1 function:$start:";
+const ENDLESS: &str = "function $f(){\n  $f();\n}\nfunction $start(){\n  $f();\n}\n$start();\n";
 
 fn refusal(run: &Result<ScriptRun, RunRefusal>) -> Option<RunRefusal> {
     match run {
