@@ -14,9 +14,9 @@ use Rattle.go_load.specs.declared.packages.LoadRefusal.TheVariants as load
 use Rattle.go_core.specs.Core.{Program}
 use Rattle.js_tree.specs.Script.{ScriptTree}
 use Rattle.js_emit.specs.Faithful.{Faithful}
-use Rattle.gopherjs.specs.Plain as p
-use Rattle.gopherjs.specs.Plain.{plain_main}
-use Rattle.gopherjs.specs.Printing.{program_of}
+use Rattle.gj_plain.specs.Plain as p
+use Rattle.gj_plain.specs.Plain.{plain_main}
+use Rattle.gj_plain.specs.Printing.{program_of}
 use Rattle.gopherjs.specs.Answers.{out_file, HaveTrees, HoldsProgram, Builds}
 use Rattle.gopherjs.specs.Builds.{root_trees, main_of, StoresMain, BuildsPackages, Refuses, CanBeTold}
 use Rattle.gopherjs.specs.declared.build.Refused.{Refused}

@@ -1,6 +1,4 @@
 pub mod ToldLemmas
-pub mod ProgramLemmas
-pub mod PlainLemmas
 pub mod NameLemmas
 pub mod FileLemmas
 pub mod PlaceLemmas

@@ -18,7 +18,7 @@ use Rattle.js_tree.specs.Script.{ScriptTree}
 use Rattle.js_tree.specs.Printed.{plain}
 use Rattle.js_emit.specs.Faithful.{Faithful}
 use Rattle.gopherjs.specs.Settings.{Settings, build}
-use Rattle.gopherjs.specs.Plain.{Main, plain_main}
+use Rattle.gj_plain.specs.Plain.{Main, plain_main}
 use Rattle.gopherjs.specs.Answers.{out_file, HoldsProgram, AreUnbuilt, IsToldFault, StoresScript, Builds}
 use Rattle.gopherjs.specs.Headline.{Headline, IsComplete, IsToldOf}
 use Rattle.gopherjs.specs.declared.outcome.Outcome.{Outcome}

@@ -14,8 +14,8 @@ use Rattle.go_core.specs.Core.{Program}
 use Rattle.js_tree.specs.Script.{ScriptTree}
 use Rattle.js_tree.specs.Printed.{plain}
 use Rattle.js_emit.specs.Faithful.{Faithful}
-use Rattle.gopherjs.specs.Plain.{Main, plain_main}
-use Rattle.gopherjs.specs.Printing.{program_of}
+use Rattle.gj_plain.specs.Plain.{Main, plain_main}
+use Rattle.gj_plain.specs.Printing.{program_of}
 use Rattle.gopherjs.specs.declared.build.Refused.{Refused}
 use Rattle.gopherjs.specs.declared.build.Refused.TheVariants as refused
 

@@ -11,16 +11,14 @@ use Rattle.go_load.specs.declared.packages.LoadRefusal.TheVariants as load
 use Rattle.js_tree.specs.Script.{ScriptTree}
 use Rattle.js_tree.specs.Printed.{plain}
 use Rattle.js_emit.specs.Faithful.{Faithful}
-use Rattle.gopherjs.specs.Plain as p
-use Rattle.gopherjs.specs.Plain.{plain_main}
-use Rattle.gopherjs.specs.Printing.{program_of}
+use Rattle.gj_plain.specs.Plain as p
+use Rattle.gj_plain.specs.Plain.{plain_main}
+use Rattle.gj_plain.specs.Printing.{program_of}
 use Rattle.gopherjs.specs.Answers.{out_file, unbuilt_fault}
-use Rattle.gopherjs.specs.declared.plain.Main.{Main}
+use Rattle.gj_plain.specs.declared.plain.Main.{Main}
+use Rattle.gj_plain.specs.MainView.{main_view}
 use Rattle.gopherjs.specs.declared.build.Refused.{Refused}
 use Rattle.gopherjs.specs.declared.build.Refused.TheVariants as refused
-
-abbrev pub main_view : Main → p.Main
-main_view main = record { place = main.place; texts = main.texts.items }
 
 -- the trees of the first package, which is the root
 abbrev pub root_trees : List (List ℕ × PackageTree) → List t.File

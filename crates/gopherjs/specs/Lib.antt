@@ -1,6 +1,4 @@
 pub mod Settings
-pub mod Plain
-pub mod Printing
 pub mod FaultText
 pub mod Outcome
 pub mod Answers

@@ -3,12 +3,13 @@
 ghost use Rattle.std.specs.Prelude.{◌≡◌, ◌<◌, length, map, IfOk};
 ghost use Rattle.go_syntax.specs.View.{file_view};
 ghost use Rattle.go_load.specs.Packages.{paths_view};
+ghost use Rattle.gj_plain.specs.MainView.{main_view};
 ghost use Rattle.gopherjs.specs.Answers.{Builds, unbuilt_fault};
-ghost use Rattle.gopherjs.specs.Builds.{main_view, root_trees, IsCompiled, StoresMain, BuildsPackages, Refuses};
+ghost use Rattle.gopherjs.specs.Builds.{root_trees, IsCompiled, StoresMain, BuildsPackages, Refuses};
 
-use crate::plain::{Main, plain_main};
-use crate::program::program_of;
 use gj_base::{Fault, Files, NoMemory, Place, StoreError, Text};
+use gj_plain::plain::{Main, plain_main};
+use gj_plain::program::program_of;
 use go_core::{FuncSet, Order};
 use go_load::{LoadRefusal, Packages, Paths, Sources, load};
 use go_syntax::tree::File;

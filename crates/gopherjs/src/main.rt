@@ -2,21 +2,17 @@
 #![tactic(auto)]
 
 mod build;
-mod disk;
 mod outcome;
-mod plain;
-mod program;
 mod report;
-mod stream;
 #[cfg(test)]
 mod tests;
 mod top;
 mod words;
 
-use crate::disk::DiskFiles;
 use crate::outcome::{Outcome, status_of};
-use crate::stream::StdSink;
 use crate::top::gopherjs;
+use gj_outside::disk::DiskFiles;
+use gj_outside::stream::StdSink;
 use std::env::Env;
 use std::io::ErrorKind;
 use std::process::ExitCode;

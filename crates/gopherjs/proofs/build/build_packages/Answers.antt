@@ -1,8 +1,8 @@
 use Rattle.std.proofs.Common.{sym, ap, ◌∙◌}
 use Rattle.std.specs.Prelude.{Option, option_map}
-use Rattle.gopherjs.specs.Plain.{plain_main}
-use Rattle.gopherjs.specs.Builds.{main_view}
-use Rattle.gopherjs.specs.declared.plain.Main.{Main}
+use Rattle.gj_plain.specs.Plain.{plain_main}
+use Rattle.gj_plain.specs.MainView.{main_view}
+use Rattle.gj_plain.specs.declared.plain.Main.{Main}
 use Rattle.gopherjs.proofs.BuildLemmas.{builds_main}
 use Rattle.gopherjs.proofs.build.build_packages.Goals as goal
 

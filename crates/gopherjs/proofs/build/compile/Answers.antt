@@ -4,7 +4,8 @@ use Rattle.go_core.specs.Core.{Program}
 use Rattle.js_tree.specs.View.{script_view}
 use Rattle.js_tree.specs.Printed.{plain}
 use Rattle.js_emit.specs.Faithful.{Faithful}
-use Rattle.gopherjs.specs.Builds.{main_view, IsCompiled}
+use Rattle.gj_plain.specs.MainView.{main_view}
+use Rattle.gopherjs.specs.Builds.{IsCompiled}
 use Rattle.gopherjs.proofs.build.compile.Goals as goal
 
 pub returns : goal.returns

@@ -1,6 +1,0 @@
-use Rattle.std.proofs.Common.{arith}
-use Rattle.gopherjs.proofs.PlainLemmas.{two_calls}
-use Rattle.gopherjs.proofs.plain.call_in.Goals as goal
-
-pub returns-in-len2-up : goal.returns-in-len2-up
-returns-in-len2-up c = two_calls c.args.exprs.now (omega (arith, c.in-len2-up.len_at_least))
