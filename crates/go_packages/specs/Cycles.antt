@@ -17,7 +17,7 @@ call_needs c f xs = f ++ xs
 module _ (ss : List (List Bind)) where
   abbrev mutual
     pub needed : t.Expr → List (List ℕ)
-    needed (t.NameExpr at x) = x ∷ []
+    needed (t.NameExpr at x) = if is_blank x then [] else x ∷ []
     needed (t.ParenExpr at x) = needed x
     needed (t.UnaryExpr at op x) = if is_built_prefix op then needed x else []
     needed (t.BinaryExpr at x op y) = needed x ++ needed y
@@ -34,16 +34,17 @@ module _ (ss : List (List Bind)) where
     needed_all t.NoExprs = []
     needed_all (t.MoreExprs x xs) = needed x ++ needed_all xs
 
-  abbrev pub needed_value : Option t.Expr → List (List ℕ)
-  needed_value None = []
-  needed_value (Some y) = needed y
+  -- a constant's name without a value of its own needs all values of its specification
+  abbrev pub needed_value : Option t.Expr → t.Exprs → List (List ℕ)
+  needed_value None all = needed_all all
+  needed_value (Some y) all = needed y
 
   abbrev pub needed_params : List Param → List (List ℕ)
   needed_params [] = []
   needed_params (p ∷ ps) = (if p.variadic then [] else needed p.type_) ++ needed_params ps
 
   abbrev pub needs_of : Item → List (List ℕ)
-  needs_of (constant_item n k u y) = needed_bound u ++ needed_value y
+  needs_of (constant_item n k u y all) = needed_bound u ++ needed_value y all
   needs_of (type_item n k e) = needed e
   needs_of (alias_item n e) = needed e
   needs_of (function_item n id s) = needed_params (params_of s) ++ needed_params (results_of s)

@@ -7,9 +7,9 @@ use Rattle.go_statements.specs.Declare.{names_count}
 
 -- own: a declaration of the package's scope, before it is typed
 pub data Item : Type 0 where
-  -- a name of a constant specification: the specification's number in its declaration, its type, and the name's value,
-  -- where the list has one for each name
-  constant_item : Name → (number : ℕ) → t.MaybeExpr → Option t.Expr → Item
+  -- a name of a constant specification: the specification's number in its declaration, its type, the name's value, where
+  -- the list has one for each name, and the whole list
+  constant_item : Name → (number : ℕ) → t.MaybeExpr → Option t.Expr → t.Exprs → Item
   -- a type, by its number among the named types of the package
   type_item : Name → (number : ℕ) → t.Expr → Item
   alias_item : Name → t.Expr → Item
@@ -20,7 +20,7 @@ pub data Item : Type 0 where
   init_item : Name → Item
 
 abbrev pub name_of : Item → Name
-name_of (constant_item n k u y) = n
+name_of (constant_item n k u y all) = n
 name_of (type_item n k e) = n
 name_of (alias_item n e) = n
 name_of (function_item n id s) = n
@@ -32,13 +32,13 @@ is_init n = bytes_eq n.text (codes "init")
 
 -- ---- constants: where a list is missing the last one stands again, its type with it
 
-abbrev pub each_name : ℕ → t.MaybeExpr → List Name → t.Exprs → List Item
-each_name k u [] ys = []
-each_name k u (n ∷ ns) t.NoExprs = constant_item n k u None ∷ each_name k u ns t.NoExprs
-each_name k u (n ∷ ns) (t.MoreExprs y ys) = constant_item n k u (Some y) ∷ each_name k u ns ys
+abbrev pub each_name : ℕ → t.MaybeExpr → (all : t.Exprs) → List Name → t.Exprs → List Item
+each_name k u all [] ys = []
+each_name k u all (n ∷ ns) t.NoExprs = constant_item n k u None all ∷ each_name k u all ns t.NoExprs
+each_name k u all (n ∷ ns) (t.MoreExprs y ys) = constant_item n k u (Some y) all ∷ each_name k u all ns ys
 
 abbrev pub spec_items : ℕ → t.MaybeExpr → List Name → t.Exprs → List Item
-spec_items k u ns ys = each_name k u ns (if names_count ns ys then ys else t.NoExprs)
+spec_items k u ns ys = each_name k u ys ns (if names_count ns ys then ys else t.NoExprs)
 
 abbrev pub constant_items : ℕ → t.MaybeExpr → t.Exprs → t.ValueSpecs → List Item
 constant_items k u ys t.NoValues = []

@@ -71,7 +71,7 @@ function_decl id None = unknown
 function_decl id (Some s) = function id s.params s.results false
 
 abbrev pub decl_of : Known → Item → Decl
-decl_of k (constant_item n number u y) = constant_found (counting number (outside k)) u y
+decl_of k (constant_item n number u y all) = constant_found (counting number (outside k)) u y
 decl_of k (type_item n number e) = type_decl (named_type number) (type_found k e)
 decl_of k (alias_item n e) = alias_decl (type_found k e)
 decl_of k (function_item n id s) = function_decl id (sig_types (outside k) s)

@@ -60,6 +60,22 @@ pub record RowsTold : Type 0 where
   pub body_of_its_own_function : fault_of ((t.FuncDecl (at 14) (id (codes "f") 19) (t.SigOf (at 20) (params ([])) (t.OneResult (name (codes "int") 23))) (block 27 ((t.ReturnStmt (at 29) (exprs ((call (name (codes "f") 36) ([])) ∷ []))) ∷ []) 40)) ∷ (t.FuncDecl (at 42) (id (codes "main") 47) (t.SigOf (at 51) (params ([])) t.NoResults) (block 54 ((t.ExprStmt (at 56) (exprs ((call (name (codes "println") 56) ((call (name (codes "f") 64) ([])) ∷ [])) ∷ []))) ∷ []) 69)) ∷ []) ≡ None
   -- `const a = len(a); func main() { }`
   pub length_of_itself : fault_of ((t.ConstDecl (at 14) (spec ((id (codes "a") 20) ∷ []) t.NoExpr ((call (name (codes "len") 24) ((name (codes "a") 28) ∷ [])) ∷ []) t.NoValues)) ∷ (t.FuncDecl (at 31) (id (codes "main") 36) (t.SigOf (at 40) (params ([])) t.NoResults) (block 43 ([]) 45)) ∷ []) ≡ Some (fault 20 74)
+  -- `const a, b = b; func f() int { return b }; func main() { f() }`
+  pub list_that_needs_a_name_of_its_own : fault_of ((t.ConstDecl (at 14) (spec ((id (codes "a") 20) ∷ (id (codes "b") 23) ∷ []) t.NoExpr ((name (codes "b") 27) ∷ []) t.NoValues)) ∷ (t.FuncDecl (at 30) (id (codes "f") 35) (t.SigOf (at 36) (params ([])) (t.OneResult (name (codes "int") 39))) (block 43 ((t.ReturnStmt (at 45) (exprs ((name (codes "b") 52) ∷ []))) ∷ []) 54)) ∷ (t.FuncDecl (at 57) (id (codes "main") 62) (t.SigOf (at 66) (params ([])) t.NoResults) (block 69 ((t.ExprStmt (at 71) (exprs ((call (name (codes "f") 71) ([])) ∷ []))) ∷ []) 75)) ∷ []) ≡ Some (fault 23 74)
+  -- `const a = 4, a; func main() { }`
+  pub list_longer_than_the_names : fault_of ((t.ConstDecl (at 14) (spec ((id (codes "a") 20) ∷ []) t.NoExpr ((num (codes "4") 24) ∷ (name (codes "a") 27) ∷ []) t.NoValues)) ∷ (t.FuncDecl (at 30) (id (codes "main") 35) (t.SigOf (at 39) (params ([])) t.NoResults) (block 42 ([]) 44)) ∷ []) ≡ Some (fault 20 74)
+  -- `const a, b = c; const c = a; func main() { }`
+  pub list_that_leads_to_a_circle : fault_of ((t.ConstDecl (at 14) (spec ((id (codes "a") 20) ∷ (id (codes "b") 23) ∷ []) t.NoExpr ((name (codes "c") 27) ∷ []) t.NoValues)) ∷ (t.ConstDecl (at 30) (spec ((id (codes "c") 36) ∷ []) t.NoExpr ((name (codes "a") 40) ∷ []) t.NoValues)) ∷ (t.FuncDecl (at 43) (id (codes "main") 48) (t.SigOf (at 52) (params ([])) t.NoResults) (block 55 ([]) 57)) ∷ []) ≡ Some (fault 20 74)
+  -- `const ( a = c; b, c ); func main() { }`: the list stands again for b and c
+  pub repeated_list_of_its_own_name : fault_of ((t.ConstDecl (at 14) (spec ((id (codes "a") 22) ∷ []) t.NoExpr ((name (codes "c") 26) ∷ []) (spec ((id (codes "b") 29) ∷ (id (codes "c") 32) ∷ []) t.NoExpr ([]) t.NoValues))) ∷ (t.FuncDecl (at 37) (id (codes "main") 42) (t.SigOf (at 46) (params ([])) t.NoResults) (block 49 ([]) 51)) ∷ []) ≡ Some (fault 32 74)
+  -- `const a, b = 4, a; func main() { println(b) }`: a needs its own value alone
+  pub value_of_a_name_before : fault_of ((t.ConstDecl (at 14) (spec ((id (codes "a") 20) ∷ (id (codes "b") 23) ∷ []) t.NoExpr ((num (codes "4") 27) ∷ (name (codes "a") 30) ∷ []) t.NoValues)) ∷ (t.FuncDecl (at 33) (id (codes "main") 38) (t.SigOf (at 42) (params ([])) t.NoResults) (block 45 ((t.ExprStmt (at 47) (exprs ((call (name (codes "println") 47) ((name (codes "b") 55) ∷ [])) ∷ []))) ∷ []) 58)) ∷ []) ≡ None
+  -- `const a, b, c = 4, a; func main() { }`
+  pub short_list_of_its_own_name : fault_of ((t.ConstDecl (at 14) (spec ((id (codes "a") 20) ∷ (id (codes "b") 23) ∷ (id (codes "c") 26) ∷ []) t.NoExpr ((num (codes "4") 30) ∷ (name (codes "a") 33) ∷ []) t.NoValues)) ∷ (t.FuncDecl (at 36) (id (codes "main") 41) (t.SigOf (at 45) (params ([])) t.NoResults) (block 48 ([]) 50)) ∷ []) ≡ Some (fault 20 74)
+  -- `const a = _; const _ = a; func main() { }`: nothing is declared by `_`
+  pub nothing_needs_the_blank_name : fault_of ((t.ConstDecl (at 14) (spec ((id (codes "a") 20) ∷ []) t.NoExpr ((name (codes "_") 24) ∷ []) t.NoValues)) ∷ (t.ConstDecl (at 27) (spec ((id (codes "_") 33) ∷ []) t.NoExpr ((name (codes "a") 37) ∷ []) t.NoValues)) ∷ (t.FuncDecl (at 40) (id (codes "main") 45) (t.SigOf (at 49) (params ([])) t.NoResults) (block 52 ([]) 54)) ∷ []) ≡ Some (fault 24 52)
+  -- `type T _; type _ T; func main() { }`
+  pub no_type_needs_the_blank_name : fault_of ((t.TypeDecl (at 14) (t.MoreTypes (id (codes "T") 19) false (name (codes "_") 21) t.NoTypes)) ∷ (t.TypeDecl (at 24) (t.MoreTypes (id (codes "_") 29) false (name (codes "T") 31) t.NoTypes)) ∷ (t.FuncDecl (at 34) (id (codes "main") 39) (t.SigOf (at 43) (params ([])) t.NoResults) (block 46 ([]) 48)) ∷ []) ≡ Some (fault 21 51)
   -- constants
   -- `type T uint8; const c T = 300; func main() { }`
   pub constant_past_its_type : fault_of ((t.TypeDecl (at 14) (t.MoreTypes (id (codes "T") 19) false (name (codes "uint8") 21) t.NoTypes)) ∷ (t.ConstDecl (at 27) (spec ((id (codes "c") 33) ∷ []) (t.AnExpr (name (codes "T") 35)) ((num (codes "300") 39) ∷ []) t.NoValues)) ∷ (t.FuncDecl (at 43) (id (codes "main") 48) (t.SigOf (at 52) (params ([])) t.NoResults) (block 55 ([]) 57)) ∷ []) ≡ Some (fault 39 32)

@@ -14,7 +14,7 @@ use Rattle.go_sound.proofs.Agree.{Agrees, AllAgree}
 use Rattle.go_sound.proofs.AgreeTyping.{DeclAgrees, OptionAgrees, ScopesAgree, typing_alike}
 use Rattle.go_sound.proofs.Grown.{IsSet}
 
-still_set : (ns more : List NamedTy) (id : ℕ) (u : Ty) → under_at ns id ≡ Some u → under_at (ns ++ more) id ≡ Some u
+pub still_set : (ns more : List NamedTy) (id : ℕ) (u : Ty) → under_at ns id ≡ Some u → under_at (ns ++ more) id ≡ Some u
 still_set [] more id u h = let e : None ≡ Some u = h in cc
 still_set (x ∷ xs) more zero u h = h
 still_set (x ∷ xs) more (suc id) u h = still_set xs more id u h

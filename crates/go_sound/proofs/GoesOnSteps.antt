@@ -43,7 +43,7 @@ then_on w v u h k = record {
 }
 
 -- nothing but what isn't looked at changes, or the innermost scope
-scopes_changed : (w v : Walk) → v.vars ≡ w.vars → v.next ≡ w.next → v.names ≡ w.names → v.next_label ≡ w.next_label → without_last v.scopes ≡ without_last w.scopes → GoesOn w v
+pub scopes_changed : (w v : Walk) → v.vars ≡ w.vars → v.next ≡ w.next → v.names ≡ w.names → v.next_label ≡ w.next_label → without_last v.scopes ≡ without_last w.scopes → GoesOn w v
 scopes_changed w v a b c d e = record {
   variables = [];
   variables_added = a ∙ sym (append-nil w.vars);
@@ -54,13 +54,13 @@ scopes_changed w v a b c d e = record {
   outer_kept = e;
 }
 
-outer_changed : (f : List Bind → List Bind) (ss : List (List Bind)) → without_last (last_changed f ss) ≡ without_last ss
+pub outer_changed : (f : List Bind → List Bind) (ss : List (List Bind)) → without_last (last_changed f ss) ≡ without_last ss
 outer_changed f [] = refl
 outer_changed f (s ∷ []) = refl
 outer_changed f (s ∷ r ∷ []) = refl
 outer_changed f (s ∷ r ∷ q ∷ ss) = ap (λ (ts : List (List Bind)). s ∷ ts) (outer_changed f (r ∷ q ∷ ss))
 
-walk_if : (w : Walk) (b : Bool) (x y : Walk) → GoesOn w x → GoesOn w y → GoesOn w (if b then x else y)
+pub walk_if : (w : Walk) (b : Bool) (x y : Walk) → GoesOn w x → GoesOn w y → GoesOn w (if b then x else y)
 walk_if w true x y h k = h
 walk_if w false x y h k = k
 
@@ -82,13 +82,13 @@ fresh_on u w = record {
   outer_kept = refl;
 }
 
-noted_on : (n : Name) (w : Walk) → GoesOn w (noted n w)
+pub noted_on : (n : Name) (w : Walk) → GoesOn w (noted n w)
 noted_on n w = walk_if w (is_blank n.text) w _ (stays w) (scopes_changed w _ refl refl refl refl refl)
 
-variable_on : (n : Name) (u : Ty) (w : Walk) → GoesOn w (with_variable n u w)
+pub variable_on : (n : Name) (u : Ty) (w : Walk) → GoesOn w (with_variable n u w)
 variable_on n u w = then_on w (noted n (fresh u w)) _ (then_on w (fresh u w) (noted n (fresh u w)) (fresh_on u w) (noted_on n (fresh u w))) (named_on n _ (noted n (fresh u w)))
 
-unknown_on : (n : Name) (w : Walk) → GoesOn w (with_unknown n w)
+pub unknown_on : (n : Name) (w : Walk) → GoesOn w (with_unknown n w)
 unknown_on n w = then_on w (noted n w) _ (noted_on n w) (named_on n _ (noted n w))
 
 pub used_on : (xs : List (List ℕ)) (w : Walk) → GoesOn w (with_uses xs w)
@@ -105,7 +105,7 @@ and_on w d f h k = then_on w d.walk (f d.walk).walk h (k d.walk)
 
 -- ---- blocks
 
-without_append : (ss : List (List Bind)) (s : List Bind) → without_last (ss ++ s ∷ []) ≡ ss
+pub without_append : (ss : List (List Bind)) (s : List Bind) → without_last (ss ++ s ∷ []) ≡ ss
 without_append [] s = refl
 without_append (r ∷ []) s = refl
 without_append (r ∷ q ∷ qs) s = ap (λ (ts : List (List Bind)). r ∷ ts) (without_append (q ∷ qs) s)
@@ -127,21 +127,21 @@ within_on f w h = record {
 
 -- ---- assignments
 
-left_on : (es : t.Exprs) (w : Walk) → GoesOn w (left_uses es w)
+pub left_on : (es : t.Exprs) (w : Walk) → GoesOn w (left_uses es w)
 left_on t.NoExprs w = stays w
 left_on (t.MoreExprs e es) w = then_on w (if is_name e then w else uses e w) _ (walk_if w (is_name e) w (uses e w) (stays w) (uses_on e w)) (left_on es (if is_name e then w else uses e w))
 
-call_assigned_on : (at : Place) (w : Walk) (xs : t.Exprs) (y : t.Expr) (us : Tys) (v u : Walk) → GoesOn v u → GoesOn v (call_assigned at w xs y us u).walk
+pub call_assigned_on : (at : Place) (w : Walk) (xs : t.Exprs) (y : t.Expr) (us : Tys) (v u : Walk) → GoesOn v u → GoesOn v (call_assigned at w xs y us u).walk
 call_assigned_on at w xs y us v u h = did_if v (same_number xs us) _ _ h h
 
-assign_by_on : (at : Place) (w : Walk) (xs ys : t.Exprs) (o : Option Tys) (v u : Walk) → GoesOn v u → GoesOn v (assign_by at w xs ys o u).walk
+pub assign_by_on : (at : Place) (w : Walk) (xs ys : t.Exprs) (o : Option Tys) (v u : Walk) → GoesOn v u → GoesOn v (assign_by at w xs ys o u).walk
 assign_by_on at w xs ys None v u h = did_if v (count_of xs ys) _ _ h h
 assign_by_on at w xs ys (Some us) v u h = call_assigned_on at w xs (first_right ys (t.NameExpr at [])) us v u h
 
 pub assign_on : (at : Place) (xs ys : t.Exprs) (w : Walk) → GoesOn w (assign at xs ys w).walk
 assign_on at xs ys w = assign_by_on at w xs ys (several_right w ys) w (uses_all ys (left_uses xs w)) (then_on w (left_uses xs w) _ (left_on xs w) (uses_all_on ys (left_uses xs w)))
 
-update_left_on : (w : Walk) (at : Place) (op : Op) (x : t.Expr) (y : Part) (fs : List Flaw) (l : Left) (v u : Walk) → GoesOn v u → GoesOn v (update_left w at op x y fs l u).walk
+pub update_left_on : (w : Walk) (at : Place) (op : Op) (x : t.Expr) (y : Part) (fs : List Flaw) (l : Left) (v u : Walk) → GoesOn v u → GoesOn v (update_left w at op x y fs l u).walk
 update_left_on w at op x y fs left_blank v u h = h
 update_left_on w at op x y fs (left_wrong gs) v u h = h
 update_left_on w at op x y fs (left_place q r) v u h = h
@@ -161,54 +161,54 @@ pub new_on : (n : Name) (o : Option Ty) (w : Walk) → GoesOn w (with_new n o w)
 new_on n None w = unknown_on n w
 new_on n (Some u) w = variable_on n u w
 
-define_new_on : (w u : Walk) (n : Name) (o : Option Place) (y : t.Expr) (f : Walk → Defined) → ((v : Walk) → GoesOn v (f v).walk) → GoesOn u (define_new w u n o y f).walk
+pub define_new_on : (w u : Walk) (n : Name) (o : Option Place) (y : t.Expr) (f : Walk → Defined) → ((v : Walk) → GoesOn v (f v).walk) → GoesOn u (define_new w u n o y f).walk
 define_new_on w u n None y f h = then_on u _ _ (new_on n _ u) (h (with_new n _ u))
 define_new_on w u n (Some at) y f h = h u
 
-define_one_on : (w u : Walk) (x : Fresh) (y : t.Expr) (f : Walk → Defined) → ((v : Walk) → GoesOn v (f v).walk) → GoesOn u (define_one w u x y f).walk
+pub define_one_on : (w u : Walk) (x : Fresh) (y : t.Expr) (f : Walk → Defined) → ((v : Walk) → GoesOn v (f v).walk) → GoesOn u (define_one w u x y f).walk
 define_one_on w u (new_name n) y f h = define_new_on w u n (is_there n u) y f h
 define_one_on w u (old_name e) y f h = h u
 define_one_on w u blank_name y f h = h u
 define_one_on w u (no_name q) y f h = h u
 
-define_each_on : (w : Walk) (xs ys : t.Exprs) (u : Walk) → GoesOn u (define_each w xs ys u).walk
+pub define_each_on : (w : Walk) (xs ys : t.Exprs) (u : Walk) → GoesOn u (define_each w xs ys u).walk
 define_each_on w (t.MoreExprs x xs) (t.MoreExprs y ys) u = define_one_on w u (fresh_of w x) y (define_each w xs ys) (λ v. define_each_on w xs ys v)
 define_each_on w t.NoExprs ys u = stays u
 define_each_on w (t.MoreExprs x xs) t.NoExprs u = stays u
 
-define_type_new_on : (u : Walk) (n : Name) (o : Option Place) (ty : Ty) (f : Walk → Defined) → ((v : Walk) → GoesOn v (f v).walk) → GoesOn u (define_type_new u n o ty f).walk
+pub define_type_new_on : (u : Walk) (n : Name) (o : Option Place) (ty : Ty) (f : Walk → Defined) → ((v : Walk) → GoesOn v (f v).walk) → GoesOn u (define_type_new u n o ty f).walk
 define_type_new_on u n None ty f h = then_on u (with_variable n ty u) _ (variable_on n ty u) (h (with_variable n ty u))
 define_type_new_on u n (Some at) ty f h = h u
 
-define_type_on : (w u : Walk) (y : t.Expr) (x : Fresh) (ty : Ty) (f : Walk → Defined) → ((v : Walk) → GoesOn v (f v).walk) → GoesOn u (define_type w u y x ty f).walk
+pub define_type_on : (w u : Walk) (y : t.Expr) (x : Fresh) (ty : Ty) (f : Walk → Defined) → ((v : Walk) → GoesOn v (f v).walk) → GoesOn u (define_type w u y x ty f).walk
 define_type_on w u y (new_name n) ty f h = define_type_new_on u n (is_there n u) ty f h
 define_type_on w u y (old_name e) ty f h = h u
 define_type_on w u y blank_name ty f h = h u
 define_type_on w u y (no_name q) ty f h = h u
 
-define_types_on : (w : Walk) (y : t.Expr) (xs : t.Exprs) (us : Tys) (u : Walk) → GoesOn u (define_types w y xs us u).walk
+pub define_types_on : (w : Walk) (y : t.Expr) (xs : t.Exprs) (us : Tys) (u : Walk) → GoesOn u (define_types w y xs us u).walk
 define_types_on w y (t.MoreExprs x xs) (more_tys ty us) u = define_type_on w u y (fresh_of w x) ty (define_types w y xs us) (λ v. define_types_on w y xs us v)
 define_types_on w y t.NoExprs us u = stays u
 define_types_on w y (t.MoreExprs x xs) no_tys u = stays u
 
-unknown_new_on : (n : Name) (o : Option Place) (u : Walk) → GoesOn u (with_unknown_new n o u)
+pub unknown_new_on : (n : Name) (o : Option Place) (u : Walk) → GoesOn u (with_unknown_new n o u)
 unknown_new_on n None u = unknown_on n u
 unknown_new_on n (Some at) u = stays u
 
-with_fresh_on : (x : Fresh) (u : Walk) → GoesOn u (with_fresh x u)
+pub with_fresh_on : (x : Fresh) (u : Walk) → GoesOn u (with_fresh x u)
 with_fresh_on (new_name n) u = unknown_new_on n (is_there n u) u
 with_fresh_on (old_name e) u = stays u
 with_fresh_on blank_name u = stays u
 with_fresh_on (no_name q) u = stays u
 
-unknown_names_on : (w : Walk) (xs : t.Exprs) (u : Walk) → GoesOn u (unknown_names w xs u)
+pub unknown_names_on : (w : Walk) (xs : t.Exprs) (u : Walk) → GoesOn u (unknown_names w xs u)
 unknown_names_on w t.NoExprs u = stays u
 unknown_names_on w (t.MoreExprs x xs) u = then_on u (with_fresh (fresh_of w x) u) _ (with_fresh_on (fresh_of w x) u) (unknown_names_on w xs (with_fresh (fresh_of w x) u))
 
-define_call_on : (at : Place) (w : Walk) (fs : List Flaw) (xs : t.Exprs) (y : t.Expr) (us : Tys) (u : Walk) → GoesOn u (define_call at w fs xs y us u).walk
+pub define_call_on : (at : Place) (w : Walk) (fs : List Flaw) (xs : t.Exprs) (y : t.Expr) (us : Tys) (u : Walk) → GoesOn u (define_call at w fs xs y us u).walk
 define_call_on at w fs xs y us u = did_if u (same_number xs us) _ _ (define_types_on w y xs us u) (unknown_names_on w xs u)
 
-define_by_on : (at : Place) (w : Walk) (fs : List Flaw) (xs ys : t.Exprs) (o : Option Tys) (u : Walk) → GoesOn u (define_by at w fs xs ys o u).walk
+pub define_by_on : (at : Place) (w : Walk) (fs : List Flaw) (xs ys : t.Exprs) (o : Option Tys) (u : Walk) → GoesOn u (define_by at w fs xs ys o u).walk
 define_by_on at w fs xs ys None u = did_if u (count_of xs ys) _ _ (define_each_on w xs ys u) (unknown_names_on w xs u)
 define_by_on at w fs xs ys (Some us) u = define_call_on at w fs xs (first_right ys (t.NameExpr at [])) us u
 

@@ -114,7 +114,7 @@ choice_agrees : (P : ℕ → Type 0) (b : Bool) (d : Decl) (o : Option Decl) →
 choice_agrees P true d o h k = h
 choice_agrees P false d o h k = k
 
-universe_agrees : (P : ℕ → Type 0) (x : List ℕ) (bs : List Bind) → all_name_no_type bs ≡ true → OptionAgrees P (find x bs)
+pub universe_agrees : (P : ℕ → Type 0) (x : List ℕ) (bs : List Bind) → all_name_no_type bs ≡ true → OptionAgrees P (find x bs)
 universe_agrees P x [] h = tt
 universe_agrees P x (b ∷ bs) h = by_test (names_no_type b.what) refl h (λ k. universe_agrees P x bs k)
   where
@@ -122,7 +122,7 @@ universe_agrees P x (b ∷ bs) h = by_test (names_no_type b.what) refl h (λ k. 
     by_test true e k r = choice_agrees P (bytes_eq b.name x) b.what (find x bs) (no_type_agrees P b.what e) (r k)
     by_test false e k r = cc
 
-or_agrees : (P : ℕ → Type 0) (o r : Option Decl) → OptionAgrees P o → OptionAgrees P r → OptionAgrees P (or_in o r)
+pub or_agrees : (P : ℕ → Type 0) (o r : Option Decl) → OptionAgrees P o → OptionAgrees P r → OptionAgrees P (or_in o r)
 or_agrees P None r h k = k
 or_agrees P (Some d) r h k = h
 
@@ -294,7 +294,7 @@ module _ (k l : Known) (know : KnowsLess k l) where
   -- types in it are set, but that of its own name
   abbrev pub ItemAgrees : Item → Type 0
   ItemAgrees (type_item n number e) = Unit {0}
-  ItemAgrees (constant_item n j u y) = DeclAgrees Q (decl_of k (constant_item n j u y))
+  ItemAgrees (constant_item n j u y all) = DeclAgrees Q (decl_of k (constant_item n j u y all))
   ItemAgrees (alias_item n e) = DeclAgrees Q (decl_of k (alias_item n e))
   ItemAgrees (function_item n id s) = DeclAgrees Q (decl_of k (function_item n id s))
   ItemAgrees (variable_item n) = Unit {0}
@@ -318,7 +318,7 @@ module _ (k l : Known) (know : KnowsLess k l) where
 
   pub item_less : (i : Item) → ItemLess i
   item_less (type_item n number e) = type_item_less n number e (found_types k l know e)
-  item_less (constant_item n j u y) = let r = constant_less j u y in record { less = r.0; types = tt; agrees = r.1 }
+  item_less (constant_item n j u y all) = let r = constant_less j u y in record { less = r.0; types = tt; agrees = r.1 }
   item_less (alias_item n e) = let r = alias_less k l know _ _ (found_types k l know e) in record { less = r.0; types = tt; agrees = r.1 }
   item_less (function_item n id s) = let r = function_less id _ _ (sig_less Q k l (found_types k l know) s) in record { less = r.0; types = tt; agrees = r.1 }
   item_less (variable_item n) = record { less = inl refl; types = tt; agrees = tt }

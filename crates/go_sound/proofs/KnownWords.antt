@@ -163,7 +163,7 @@ types_from g (i ∷ is) = types_from g is
 pub named_filled : (k : Known) (is : List Item) → named_by k is ≡ types_from (under_found k) is
 named_filled k [] = refl
 named_filled k (type_item n number e ∷ is) = ap (λ (xs : List NamedTy). named_record n (under_found k e) ∷ xs) (named_filled k is)
-named_filled k (constant_item n m u y ∷ is) = named_filled k is
+named_filled k (constant_item n m u y all ∷ is) = named_filled k is
 named_filled k (alias_item n e ∷ is) = named_filled k is
 named_filled k (function_item n id s ∷ is) = named_filled k is
 named_filled k (variable_item n ∷ is) = named_filled k is
@@ -175,7 +175,7 @@ no_type e = None
 pub unset_filled : (is : List Item) → unset is ≡ types_from no_type is
 unset_filled [] = refl
 unset_filled (type_item n number e ∷ is) = ap (λ (xs : List NamedTy). named_record n None ∷ xs) (unset_filled is)
-unset_filled (constant_item n m u y ∷ is) = unset_filled is
+unset_filled (constant_item n m u y all ∷ is) = unset_filled is
 unset_filled (alias_item n e ∷ is) = unset_filled is
 unset_filled (function_item n id s ∷ is) = unset_filled is
 unset_filled (variable_item n ∷ is) = unset_filled is
@@ -184,7 +184,7 @@ unset_filled (init_item n ∷ is) = unset_filled is
 -- of a type alone
 abbrev pub OfType : (t.Expr → Type 0) → Item → Type 0
 OfType Q (type_item n number e) = Q e
-OfType Q (constant_item n m u y) = Unit {0}
+OfType Q (constant_item n m u y all) = Unit {0}
 OfType Q (alias_item n e) = Unit {0}
 OfType Q (function_item n id s) = Unit {0}
 OfType Q (variable_item n) = Unit {0}
@@ -193,7 +193,7 @@ OfType Q (init_item n) = Unit {0}
 pub types_same : (f g : t.Expr → Option Ty) (is : List Item) → AllItems (OfType (λ e. f e ≡ g e)) is → types_from f is ≡ types_from g is
 types_same f g [] h = refl
 types_same f g (type_item n number e ∷ is) h = ap (λ (u : Option Ty). named_record n u ∷ types_from f is) h.0 ∙ ap (λ (xs : List NamedTy). named_record n (g e) ∷ xs) (types_same f g is h.1)
-types_same f g (constant_item n m u y ∷ is) h = types_same f g is h.1
+types_same f g (constant_item n m u y all ∷ is) h = types_same f g is h.1
 types_same f g (alias_item n e ∷ is) h = types_same f g is h.1
 types_same f g (function_item n id s ∷ is) h = types_same f g is h.1
 types_same f g (variable_item n ∷ is) h = types_same f g is h.1
@@ -219,7 +219,7 @@ names_less (x ∷ xs) (y ∷ ys) (suc id) h = names_less xs ys id h.1
 pub types_less : (f g : t.Expr → Option Ty) (is : List Item) → AllItems (OfType (λ e. LessUnder (f e) (g e))) is → LessNames (types_from f is) (types_from g is)
 types_less f g [] h = tt
 types_less f g (type_item n number e ∷ is) h = (h.0, types_less f g is h.1)
-types_less f g (constant_item n m u y ∷ is) h = types_less f g is h.1
+types_less f g (constant_item n m u y all ∷ is) h = types_less f g is h.1
 types_less f g (alias_item n e ∷ is) h = types_less f g is h.1
 types_less f g (function_item n id s ∷ is) h = types_less f g is h.1
 types_less f g (variable_item n ∷ is) h = types_less f g is h.1
@@ -235,7 +235,7 @@ first_less (p ∷ ps) xs ys h = (inr refl, first_less ps xs ys h)
 abbrev pub NumberedTo : ℕ → List Item → ℕ → Type 0
 NumberedTo k [] m = k ≡ m
 NumberedTo k (type_item n number e ∷ is) m = (number ≡ k) × NumberedTo (suc k) is m
-NumberedTo k (constant_item n j u y ∷ is) m = NumberedTo k is m
+NumberedTo k (constant_item n j u y all ∷ is) m = NumberedTo k is m
 NumberedTo k (alias_item n e ∷ is) m = NumberedTo k is m
 NumberedTo k (function_item n id s ∷ is) m = NumberedTo k is m
 NumberedTo k (variable_item n ∷ is) m = NumberedTo k is m
@@ -244,17 +244,17 @@ NumberedTo k (init_item n ∷ is) m = NumberedTo k is m
 -- a type's place in a list of named types has what its expression stands for
 abbrev pub IsAt : (t.Expr → Option Ty) → ℕ → List NamedTy → Item → Type 0
 IsAt g base ns (type_item n number e) = under_at ns (base + number) ≡ g e
-IsAt g base ns (constant_item n j u y) = Unit {0}
+IsAt g base ns (constant_item n j u y all) = Unit {0}
 IsAt g base ns (alias_item n e) = Unit {0}
 IsAt g base ns (function_item n id s) = Unit {0}
 IsAt g base ns (variable_item n) = Unit {0}
 IsAt g base ns (init_item n) = Unit {0}
 
-seam : (ps : List NamedTy) (x : NamedTy) (xs : List NamedTy) → slice_get (ps ++ x ∷ xs) (length ps) ≡ Some x
+pub seam : (ps : List NamedTy) (x : NamedTy) (xs : List NamedTy) → slice_get (ps ++ x ∷ xs) (length ps) ≡ Some x
 seam [] x xs = refl
 seam (p ∷ ps) x xs = seam ps x xs
 
-one_longer : (ps : List NamedTy) (x : NamedTy) → length (ps ++ x ∷ []) ≡ suc (length ps)
+pub one_longer : (ps : List NamedTy) (x : NamedTy) → length (ps ++ x ∷ []) ≡ suc (length ps)
 one_longer [] x = refl
 one_longer (p ∷ ps) x = ap suc (one_longer ps x)
 
@@ -267,7 +267,7 @@ all_at g base k m ps (type_item n number e ∷ is) l h = (here, subst (λ (ns : 
 
     longer : length (ps ++ named_record n (g e) ∷ []) ≡ base + suc k
     longer = let a = one_longer ps (named_record n (g e)) in omega arith
-all_at g base k m ps (constant_item n j u y ∷ is) l h = (tt, all_at g base k m ps is l h)
+all_at g base k m ps (constant_item n j u y all ∷ is) l h = (tt, all_at g base k m ps is l h)
 all_at g base k m ps (alias_item n e ∷ is) l h = (tt, all_at g base k m ps is l h)
 all_at g base k m ps (function_item n id s ∷ is) l h = (tt, all_at g base k m ps is l h)
 all_at g base k m ps (variable_item n ∷ is) l h = (tt, all_at g base k m ps is l h)

@@ -21,35 +21,35 @@ use Rattle.go_typing.specs.Faulty.{IsIn}
 use Rattle.go_sound.specs.Lost.{NothingUnknown, NothingIsLost}
 use Rattle.go_sound.proofs.Decided.{IsDecided, decided, decided_if, decided_bad, unary_decided, shift_decided, singles_decided, index_decided, slice_decided, conversion_decided, function_given_decided, spread_decided, built_in_call_decided, called_value_decided, pending_called}
 
-abbrev Told : List Flaw → Type 0
+abbrev pub Told : List Flaw → Type 0
 Told fs = (f : Flaw) × IsIn f fs
 
-in_left : (f : Flaw) (xs ys : List Flaw) → IsIn f xs → IsIn f (xs ++ ys)
+pub in_left : (f : Flaw) (xs ys : List Flaw) → IsIn f xs → IsIn f (xs ++ ys)
 in_left f [] ys h = absurd h
 in_left f (x ∷ xs) ys (inl e) = inl e
 in_left f (x ∷ xs) ys (inr h) = inr (in_left f xs ys h)
 
-in_right : (f : Flaw) (xs ys : List Flaw) → IsIn f ys → IsIn f (xs ++ ys)
+pub in_right : (f : Flaw) (xs ys : List Flaw) → IsIn f ys → IsIn f (xs ++ ys)
 in_right f [] ys h = h
 in_right f (x ∷ xs) ys h = inr (in_right f xs ys h)
 
-told_left : (xs ys : List Flaw) → Told xs → Told (xs ++ ys)
+pub told_left : (xs ys : List Flaw) → Told xs → Told (xs ++ ys)
 told_left xs ys h = (h.0, in_left h.0 xs ys h.1)
 
-told_right : (xs ys : List Flaw) → Told ys → Told (xs ++ ys)
+pub told_right : (xs ys : List Flaw) → Told ys → Told (xs ++ ys)
 told_right xs ys h = (h.0, in_right h.0 xs ys h.1)
 
 -- these are typed, or something is told of them
-abbrev Either : Bool → List Flaw → Type 0
+abbrev pub Either : Bool → List Flaw → Type 0
 Either b fs = (b ≡ true) ⊎ Told fs
 
-both_either : (b c : Bool) (xs ys : List Flaw) → Either b xs → Either c ys → Either (b && c) (xs ++ ys)
+pub both_either : (b c : Bool) (xs ys : List Flaw) → Either b xs → Either c ys → Either (b && c) (xs ++ ys)
 both_either b c xs ys (inr h) k = inr (told_left xs ys h)
 both_either b c xs ys (inl h) (inr k) = inr (told_right xs ys k)
 both_either b c xs ys (inl h) (inl k) = inl (ap (λ (d : Bool). d && c) h ∙ k)
 
 -- how && groups in a slice's row: from the left
-four : (a b c d : Bool) (xs ys zs ws : List Flaw) → Either a xs → Either b ys → Either c zs → Either d ws → Either (a && b && c && d) (xs ++ (ys ++ (zs ++ ws)))
+pub four : (a b c d : Bool) (xs ys zs ws : List Flaw) → Either a xs → Either b ys → Either c zs → Either d ws → Either (a && b && c && d) (xs ++ (ys ++ (zs ++ ws)))
 four a b c d xs ys zs ws (inr h) i j k = inr (told_left xs _ h)
 four a b c d xs ys zs ws (inl h) (inr i) j k = inr (told_right xs _ (told_left ys _ i))
 four a b c d xs ys zs ws (inl h) (inl i) (inr j) k = inr (told_right xs _ (told_right ys _ (told_left zs ws j)))
@@ -57,7 +57,7 @@ four a b c d xs ys zs ws (inl h) (inl i) (inl j) (inr k) = inr (told_right xs _ 
 four a b c d xs ys zs ws (inl h) (inl i) (inl j) (inl k) =
     inl (ap (λ (e : Bool). e && b && c && d) h ∙ ap (λ (e : Bool). true && e && c && d) i ∙ ap (λ (e : Bool). true && true && e && d) j ∙ ap (λ (e : Bool). true && true && true && e) k)
 
-outcome : (a : Answer) → IsDecided a → Either (is_known a) (own a)
+pub outcome : (a : Answer) → IsDecided a → Either (is_known a) (own a)
 outcome (wrong f fs) h = inr (f, inl refl)
 outcome untyped_part h = absurd h.is_decided
 outcome (value c t v) h = inl refl
@@ -73,7 +73,7 @@ after_parts ps a (inl h) = inl h
 after_parts ps a (inr h) = inr (told_right ps (own a) h)
 
 -- a row that wants its parts typed
-by_parts : (b : Bool) (a : Answer) (ps : List Flaw) → Either b ps → IsDecided a → Either (is_known (where_known b a)) (ps ++ own (where_known b a))
+pub by_parts : (b : Bool) (a : Answer) (ps : List Flaw) → Either b ps → IsDecided a → Either (is_known (where_known b a)) (ps ++ own (where_known b a))
 by_parts b a ps (inr h) d = inr (told_left ps (own (where_known b a)) h)
 by_parts b a ps (inl h) d =
     subst (λ (c : Bool). Either (is_known (where_known c a)) (ps ++ own (where_known c a))) (sym h) (after_parts ps a (outcome a d))
@@ -84,7 +84,7 @@ built_in_name_decided at Imag = decided_bad _ _
 built_in_name_decided at Real = decided_bad _ _
 built_in_name_decided at _ = decided _ tt
 
-declared_decided : (at : Place) (x : List ℕ) (o : Option Decl) → (o ≡ Some unknown → ⊥) → IsDecided (declared_row at x o)
+pub declared_decided : (at : Place) (x : List ℕ) (o : Option Decl) → (o ≡ Some unknown → ⊥) → IsDecided (declared_row at x o)
 declared_decided at x None h = decided _ tt
 declared_decided at x (Some (variable id t)) h = decided _ tt
 declared_decided at x (Some (global number t)) h = decided _ tt
@@ -97,7 +97,7 @@ declared_decided at x (Some nil_value) h = decided _ tt
 declared_decided at x (Some (refused code)) h = decided_bad _ _
 declared_decided at x (Some unknown) h = absurd (h refl)
 
-paren_known : (a : Answer) → is_known a ≡ true → is_known (paren_row a) ≡ true
+pub paren_known : (a : Answer) → is_known a ≡ true → is_known (paren_row a) ≡ true
 paren_known (wrong f fs) h = let e : false ≡ true = h in cc
 paren_known untyped_part h = let e : false ≡ true = h in cc
 paren_known (value c t v) h = refl
@@ -108,12 +108,12 @@ paren_known (built_in b) h = refl
 paren_known blank h = refl
 paren_known (does s) h = refl
 
-paren_either : (a : Answer) (fs : List Flaw) → Either (is_known a) fs → Either (is_known (paren_row a)) fs
+pub paren_either : (a : Answer) (fs : List Flaw) → Either (is_known a) fs → Either (is_known (paren_row a)) fs
 paren_either a fs (inl h) = inl (paren_known a h)
 paren_either a fs (inr h) = inr h
 
 module _ (ns : List NamedTy) where
-  prefix_either : (at : Place) (op : Prefix) (x : Part) (fs : List Flaw) → Either (is_known x.answer) fs → Either (is_known (prefix_row ns at op x)) (where_true (is_built_prefix op) fs ++ own (prefix_row ns at op x))
+  pub prefix_either : (at : Place) (op : Prefix) (x : Part) (fs : List Flaw) → Either (is_known x.answer) fs → Either (is_known (prefix_row ns at op x)) (where_true (is_built_prefix op) fs ++ own (prefix_row ns at op x))
   prefix_either at «prefix».Plus x fs h = by_parts (is_known x.answer) _ fs h (unary_decided ns at operator.Plus x.place (single x.answer))
   prefix_either at «prefix».Neg x fs h = by_parts (is_known x.answer) _ fs h (unary_decided ns at operator.Neg x.place (single x.answer))
   prefix_either at «prefix».Not x fs h = by_parts (is_known x.answer) _ fs h (unary_decided ns at operator.Not x.place (single x.answer))
@@ -127,7 +127,7 @@ module _ (ns : List NamedTy) where
       (fs ++ own (where_known (is_known x.answer && is_known y.answer) (on_singles ns class at op x.place (single x.answer) y.place (single y.answer))))
   class_either class at op x y fs h = by_parts (is_known x.answer && is_known y.answer) _ fs h (singles_decided ns class at op x.place (single x.answer) y.place (single y.answer))
 
-  operator_either : (at : Place) (op : Op) (x y : Part) (fs : List Flaw) → Either (is_known x.answer && is_known y.answer) fs → Either (is_known (operator_row ns at op x y)) (fs ++ own (operator_row ns at op x y))
+  pub operator_either : (at : Place) (op : Op) (x y : Part) (fs : List Flaw) → Either (is_known x.answer && is_known y.answer) fs → Either (is_known (operator_row ns at op x y)) (fs ++ own (operator_row ns at op x y))
   operator_either at operator.Shl x y fs h = by_parts (is_known x.answer && is_known y.answer) _ fs h (shift_decided ns at operator.Shl x.place (single x.answer) y.place (single y.answer))
   operator_either at operator.Shr x y fs h = by_parts (is_known x.answer && is_known y.answer) _ fs h (shift_decided ns at operator.Shr x.place (single x.answer) y.place (single y.answer))
   operator_either at operator.Eq x y fs h = class_either Comparison at operator.Eq x y fs h
@@ -140,13 +140,13 @@ module _ (ns : List NamedTy) where
   operator_either at operator.OrElse x y fs h = class_either Logical at operator.OrElse x y fs h
   operator_either at op x y fs h = class_either Arithmetic at op x y fs h
 
-  function_either : (at : Place) (id : ℕ) (ps rs : Tys) (v spread : Bool) (xs : List Part) (fs : List Flaw) → Either (all_known xs) fs
+  pub function_either : (at : Place) (id : ℕ) (ps rs : Tys) (v spread : Bool) (xs : List Part) (fs : List Flaw) → Either (all_known xs) fs
       → Either (is_known (function_row ns at id ps rs v spread xs)) (fs ++ own (function_row ns at id ps rs v spread xs))
   function_either at id ps rs true spread xs fs h = by_parts (all_known xs) (bad at 0) fs h (decided_bad at 0)
   function_either at id ps rs false true xs fs h = by_parts (all_known xs) _ fs h (spread_decided ns at (given xs))
   function_either at id ps rs false false xs fs h = by_parts (all_known xs) _ fs h (function_given_decided ns at id ps rs (given xs))
 
-  built_in_either : (at : Place) (b : Builtin) (spread : Bool) (xs : List Part) (fs : List Flaw) → Either (all_known xs) fs
+  pub built_in_either : (at : Place) (b : Builtin) (spread : Bool) (xs : List Part) (fs : List Flaw) → Either (all_known xs) fs
       → Either (is_known (built_in_row ns at b spread xs)) (where_true (is_built b) fs ++ own (built_in_row ns at b spread xs))
   built_in_either at b spread xs fs h = by_test (is_built b) _ (decided_if spread (spread_given ns at (given xs)) (built_in_call ns at b (given xs)) (spread_decided ns at (given xs)) (built_in_call_decided ns at b (given xs)))
     where
@@ -172,7 +172,7 @@ module _ (ns : List NamedTy) where
       by_case blank e = with_all (bad q 52) (decided_bad q 52)
       by_case (does st) e = with_all (bad q 52) (decided_bad q 52)
 
-  value_either : (at : Place) (f : Part) (spread : Bool) (xs : List Part) (gs fs : List Flaw) → Either (is_known f.answer) gs → Either (all_known xs) fs
+  pub value_either : (at : Place) (f : Part) (spread : Bool) (xs : List Part) (gs fs : List Flaw) → Either (is_known f.answer) gs → Either (all_known xs) fs
       → Either (is_known (called_row ns at f spread xs)) ((gs ++ fs) ++ own (called_row ns at f spread xs))
   value_either at f spread xs gs fs (inr h) k = inr (told_left (gs ++ fs) _ (told_left gs fs h))
   value_either at f spread xs gs fs (inl h) (inr k) = inr (told_left (gs ++ fs) _ (told_right gs fs k))

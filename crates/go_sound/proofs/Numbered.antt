@@ -9,22 +9,22 @@ use Rattle.go_sound.proofs.KnownWords.{NumberedTo}
 append : (k m n : ℕ) (is js : List Item) → NumberedTo k is m → NumberedTo m js n → NumberedTo k (is ++ js) n
 append k m n [] js h l = subst (λ (j : ℕ). NumberedTo j js n) (sym h) l
 append k m n (type_item x number e ∷ is) js h l = (h.0, append (suc k) m n is js h.1 l)
-append k m n (constant_item x j u y ∷ is) js h l = append k m n is js h l
+append k m n (constant_item x j u y all ∷ is) js h l = append k m n is js h l
 append k m n (alias_item x e ∷ is) js h l = append k m n is js h l
 append k m n (function_item x id s ∷ is) js h l = append k m n is js h l
 append k m n (variable_item x ∷ is) js h l = append k m n is js h l
 append k m n (init_item x ∷ is) js h l = append k m n is js h l
 
-each_numbered : (k j : ℕ) (u : t.MaybeExpr) (ns : List Name) (ys : t.Exprs) → NumberedTo k (each_name j u ns ys) k
-each_numbered k j u [] ys = refl
-each_numbered k j u (n ∷ ns) t.NoExprs = each_numbered k j u ns t.NoExprs
-each_numbered k j u (n ∷ ns) (t.MoreExprs y ys) = each_numbered k j u ns ys
+each_numbered : (k j : ℕ) (u : t.MaybeExpr) (all : t.Exprs) (ns : List Name) (ys : t.Exprs) → NumberedTo k (each_name j u all ns ys) k
+each_numbered k j u all [] ys = refl
+each_numbered k j u all (n ∷ ns) t.NoExprs = each_numbered k j u all ns t.NoExprs
+each_numbered k j u all (n ∷ ns) (t.MoreExprs y ys) = each_numbered k j u all ns ys
 
 constants_numbered : (k j : ℕ) (u : t.MaybeExpr) (ys : t.Exprs) (vs : t.ValueSpecs) → NumberedTo k (constant_items j u ys vs) k
 constants_numbered k j u ys t.NoValues = refl
-constants_numbered k j u ys (t.MoreValues ns v t.NoExprs vs) = append k k k (spec_items j u ns ys) _ (each_numbered k j u ns (if names_count ns ys then ys else t.NoExprs)) (constants_numbered k (suc j) u ys vs)
+constants_numbered k j u ys (t.MoreValues ns v t.NoExprs vs) = append k k k (spec_items j u ns ys) _ (each_numbered k j u ys ns (if names_count ns ys then ys else t.NoExprs)) (constants_numbered k (suc j) u ys vs)
 constants_numbered k j u ys (t.MoreValues ns v (t.MoreExprs z zs) vs) =
-    append k k k (spec_items j v ns (t.MoreExprs z zs)) _ (each_numbered k j v ns (if names_count ns (t.MoreExprs z zs) then t.MoreExprs z zs else t.NoExprs)) (constants_numbered k (suc j) v (t.MoreExprs z zs) vs)
+    append k k k (spec_items j v ns (t.MoreExprs z zs)) _ (each_numbered k j v (t.MoreExprs z zs) ns (if names_count ns (t.MoreExprs z zs) then t.MoreExprs z zs else t.NoExprs)) (constants_numbered k (suc j) v (t.MoreExprs z zs) vs)
 
 variable_numbered : (k : ℕ) (ns : List Name) → NumberedTo k (each_variable ns) k
 variable_numbered k [] = refl

@@ -16,11 +16,11 @@ use Rattle.go_sound.proofs.RoundsStep.{known_of, round_state, nothing_state, rou
 
 -- ---- how many items aren't typed
 
-abbrev is_unknown : Decl → Bool
+abbrev pub is_unknown : Decl → Bool
 is_unknown unknown = true
 is_unknown _ = false
 
-unknown_is : (d : Decl) → is_unknown d ≡ true → d ≡ unknown
+pub unknown_is : (d : Decl) → is_unknown d ≡ true → d ≡ unknown
 unknown_is unknown h = refl
 unknown_is (variable id u) h = let e : false ≡ true = h in cc
 unknown_is (global number u) h = let e : false ≡ true = h in cc
@@ -51,7 +51,7 @@ none_typed k number (Some u) h = let e : is_unknown (type_name (named_type numbe
 -- two items that aren't typed are the same
 both_unknown : (k l : Known) (i : Item) → decl_of k i ≡ unknown → decl_of l i ≡ unknown → SameItem k l i
 both_unknown k l (type_item n number e) h j = (h ∙ sym j, none_typed k number (type_found k e) h ∙ sym (none_typed l number (type_found l e) j))
-both_unknown k l (constant_item n m u y) h j = (h ∙ sym j, tt)
+both_unknown k l (constant_item n m u y all) h j = (h ∙ sym j, tt)
 both_unknown k l (alias_item n e) h j = (h ∙ sym j, tt)
 both_unknown k l (function_item n id s) h j = (h ∙ sym j, tt)
 both_unknown k l (variable_item n) h j = (h ∙ sym j, tt)
@@ -64,7 +64,7 @@ same_found k l know (type_item n number e) h d = (d, by_case h.types)
     by_case : (type_found k e ≡ None) ⊎ (type_found k e ≡ type_found l e) × (under_found k e ≡ under_found l e) → under_found k e ≡ under_found l e
     by_case (inr f) = f.1
     by_case (inl f) = ap (option_map (underlying k.names)) f ∙ sym (none_typed l number (type_found l e) (sym d ∙ ap (type_decl (named_type number)) f))
-same_found k l know (constant_item n m u y) h d = (d, tt)
+same_found k l know (constant_item n m u y all) h d = (d, tt)
 same_found k l know (alias_item n e) h d = (d, tt)
 same_found k l know (function_item n id s) h d = (d, tt)
 same_found k l know (variable_item n) h d = (d, tt)
@@ -140,7 +140,7 @@ all_missing f (i ∷ is) h = by_test (is_unknown (f i)) refl h (few f is) (λ k.
 
 unknown_nothing : (k : Known) (i : Item) → decl_of k i ≡ unknown → OfType (λ (e : t.Expr). under_found k e ≡ no_type e) i
 unknown_nothing k (type_item n number e) h = none_typed k number (type_found k e) h
-unknown_nothing k (constant_item n m u y) h = tt
+unknown_nothing k (constant_item n m u y all) h = tt
 unknown_nothing k (alias_item n e) h = tt
 unknown_nothing k (function_item n id s) h = tt
 unknown_nothing k (variable_item n) h = tt
@@ -215,7 +215,7 @@ pub stays_so : StaysSo
 stays_so ds n i h = let r = items_numbered ds in types_no_more _ _ (chain (items_of ds) r.last r.numbered n) i
 
 -- each round knows less than what another round doesn't change
-below : (is : List Item) (m : ℕ) → NumberedTo 0 is m → (l : Known) → round is l ≡ l → (n : ℕ) → KnowsLess (after_rounds n is) l
+pub below : (is : List Item) (m : ℕ) → NumberedTo 0 is m → (l : Known) → round is l ≡ l → (n : ℕ) → KnowsLess (after_rounds n is) l
 below is m h l e zero = subst (KnowsLess (nothing_known is)) e (first_less_round is l)
 below is m h l e (suc n) =
     let c = chain is m h n in

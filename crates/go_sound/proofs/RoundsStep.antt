@@ -39,7 +39,7 @@ found_placed k ns number (Some u) h = (underlying k.names u, h)
 declared_set : (k : Known) (ns : List NamedTy) → ((id : ℕ) → IsSet k.names id → IsSet ns id) → (l : Known) (know : KnowsLess k l) (i : Item)
     → ItemLess k l know i → IsAt (under_found k) (length first_names) ns i → DeclAgrees (IsSet ns) (decl_of k i)
 declared_set k ns g l know (type_item n number e) h a = found_placed k ns number (type_found k e) a
-declared_set k ns g l know (constant_item n j u y) h a = decl_more (IsSet k.names) (IsSet ns) g (decl_of k (constant_item n j u y)) h.agrees
+declared_set k ns g l know (constant_item n j u y all) h a = decl_more (IsSet k.names) (IsSet ns) g (decl_of k (constant_item n j u y all)) h.agrees
 declared_set k ns g l know (alias_item n e) h a = decl_more (IsSet k.names) (IsSet ns) g (decl_of k (alias_item n e)) h.agrees
 declared_set k ns g l know (function_item n id s) h a = decl_more (IsSet k.names) (IsSet ns) g (decl_of k (function_item n id s)) h.agrees
 declared_set k ns g l know (variable_item n) h a = tt
@@ -51,7 +51,7 @@ under_less k l know (type_item n number e) h = by_case h.types
     by_case : (type_found k e ≡ None) ⊎ (type_found k e ≡ type_found l e) × (under_found k e ≡ under_found l e) → LessUnder (under_found k e) (under_found l e)
     by_case (inl f) = inl (ap (option_map (underlying k.names)) f)
     by_case (inr f) = inr f.1
-under_less k l know (constant_item n j u y) h = tt
+under_less k l know (constant_item n j u y all) h = tt
 under_less k l know (alias_item n e) h = tt
 under_less k l know (function_item n id s) h = tt
 under_less k l know (variable_item n) h = tt
@@ -97,7 +97,7 @@ round_less is m numbered k l know grown =
 -- nothing is known at first
 nothing_types : (g : t.Expr → Option Ty) (i : Item) → OfType (λ (e : t.Expr). LessUnder (no_type e) (g e)) i
 nothing_types g (type_item n number e) = inl refl
-nothing_types g (constant_item n j u y) = tt
+nothing_types g (constant_item n j u y all) = tt
 nothing_types g (alias_item n e) = tt
 nothing_types g (function_item n id s) = tt
 nothing_types g (variable_item n) = tt

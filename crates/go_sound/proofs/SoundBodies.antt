@@ -39,18 +39,18 @@ no_second (f ∷ fs) gs h = cc
 
 -- ---- a wanted value is one, or has a fault
 
-abbrev IsValueOrWrong : Answer → Type 0
+abbrev pub IsValueOrWrong : Answer → Type 0
 IsValueOrWrong (value c t v) = Unit {0}
 IsValueOrWrong (wrong f fs) = Unit {0}
 IsValueOrWrong _ = ⊥
 
-record IsAValue (a : Answer) : Type 0 where
+pub record IsAValue (a : Answer) : Type 0 where
   pub core_ : core.Expr
   pub type_at : Ty
   pub constant_ : Option Const
   pub is_value : a ≡ value core_ type_at constant_
 
-value_of : (a : Answer) → IsValueOrWrong a → own a ≡ [] → IsAValue a
+pub value_of : (a : Answer) → IsValueOrWrong a → own a ≡ [] → IsAValue a
 value_of (value c t v) h e = record { core_ = c; type_at = t; constant_ = v; is_value = refl }
 value_of (wrong f fs) h e = cc
 value_of (pending p b) h e = absurd h
@@ -69,7 +69,7 @@ operand_form : (ns : List NamedTy) (at : Place) (u : Ty) (x : Option Operand) �
 operand_form ns at u None = tt
 operand_form ns at u (Some x) = settled_form (settled_at at u (passed_at ns at u x))
 
-wanted_form : (ns : List NamedTy) (at : Place) (u : Ty) (a : Answer) → is_known a ≡ true → IsValueOrWrong (wanted ns at u a)
+pub wanted_form : (ns : List NamedTy) (at : Place) (u : Ty) (a : Answer) → is_known a ≡ true → IsValueOrWrong (wanted ns at u a)
 wanted_form ns at u (wrong f fs) h = let e : false ≡ true = h in cc
 wanted_form ns at u untyped_part h = let e : false ≡ true = h in cc
 wanted_form ns at u (value c t v) h = operand_form ns at u (single (value c t v))
@@ -98,12 +98,12 @@ alone_form ns at (does s) h = tt
 -- ---- types that are set
 
 mutual
-  set_again : (ns : List NamedTy) (u : Ty) → Agrees (IsSet ns) u → TypeIsSet ns u
+  pub set_again : (ns : List NamedTy) (u : Ty) → Agrees (IsSet ns) u → TypeIsSet ns u
   set_again ns (ty.named id) h = h
   set_again ns (ty.tuple us) h = sets_again ns us h
   set_again ns _ h = tt
 
-  sets_again : (ns : List NamedTy) (us : Tys) → AllAgree (IsSet ns) us → TypesAreSet ns us
+  pub sets_again : (ns : List NamedTy) (us : Tys) → AllAgree (IsSet ns) us → TypesAreSet ns us
   sets_again ns no_tys h = tt
   sets_again ns (more_tys u us) h = (set_again ns u h.0, sets_again ns us h.1)
 
@@ -115,7 +115,7 @@ module _ (p : CoreProgram) (a : sound.Around) (w : Walk) (r : IsReady p a w) whe
       by_case (inl k) = k
       by_case (inr t) = absurd (subst (IsIn t.0) h t.1)
 
-  alike_here : (e : Expr) → Alike (w.names ++ r.further) w.names (IsSet w.names) (same_under w.names r.further) (typing (w.names ++ r.further) w.scopes e) (typing w.names w.scopes e)
+  pub alike_here : (e : Expr) → Alike (w.names ++ r.further) w.names (IsSet w.names) (same_under w.names r.further) (typing (w.names ++ r.further) w.scopes e) (typing w.names w.scopes e)
   alike_here e = typing_alike (w.names ++ r.further) w.names (IsSet w.names) (same_under w.names r.further) w.scopes (scopes_set w.names w.scopes r.types_set) e
 
   -- a value is wanted of the same answer, with all named types

@@ -379,9 +379,9 @@ module _ (p : CoreProgram) (a : Around) where
     pub results_scalar : AreScalarTypes p rs
 
   call_sound : (rs : Tys) (c : core.Expr) → AreScalarTypes p rs → SoundExpr p a c → types_of p.names c ≡ listed_types rs → IsSound p a (call_value rs c)
-  call_sound no_tys c h s e = sound p a _ (s, e, tt)
+  call_sound no_tys c h s e = sound p a _ (s, e, tt, refl)
   call_sound (more_tys t no_tys) c h s e = value_sound p a c t None (record { sound = s; gives = e; scalar = h.0; fits = tt })
-  call_sound (more_tys t (more_tys u us)) c h s e = sound p a _ (s, e, h)
+  call_sound (more_tys t (more_tys u us)) c h s e = sound p a _ (s, e, h, refl)
 
   call_with_sound : (id : ℕ) (ps rs : Tys) (vs : Values) → IsCallable id ps rs → AreValues ps vs → IsSound p a (call_with id rs vs)
   call_with_sound id ps rs (values es) h k =
@@ -496,7 +496,7 @@ module _ (p : CoreProgram) (a : Around) where
   several_printed c ts h = record { is_printed = record { sound = (h.sound, tt); printable_all = subst (ArePrintable p) (sym (append-nil_types (types_of p.names c) ∙ h.gives)) (listed_printable ts h.scalar) } }
 
   print_with_sound : (ends : Bool) (vs : Values) → IsPrinted vs → IsSound p a (print_with ends vs)
-  print_with_sound ends (values es) h = let r = h.is_printed in sound p a _ (r.sound, r.printable_all)
+  print_with_sound ends (values es) h = let r = h.is_printed in sound p a _ ((r.sound, r.printable_all), tt)
   print_with_sound ends (calls.unfit f fs) h = sound p a _ tt
 
   print_sound : (at : Place) (b : Builtin) (g : Given) → IsGiven g → IsSound p a (print_given p.names at b g)

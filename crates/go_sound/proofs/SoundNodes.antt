@@ -66,7 +66,7 @@ module _ (p : CoreProgram) (a : Around) where
   declared_sound at x (Some (function id ps rs v)) h = sound_bad p a _ _
   declared_sound at x (Some (imported path)) h = sound p a _ tt
   declared_sound at x (Some (env.built_in b)) h = built_in_name_sound at b
-  declared_sound at x (Some nil_value) h = sound p a _ tt
+  declared_sound at x (Some nil_value) h = sound p a _ refl
   declared_sound at x (Some (refused code)) h = sound_bad p a _ _
   declared_sound at x (Some unknown) h = sound p a _ tt
 
@@ -117,7 +117,7 @@ module _ (p : CoreProgram) (a : Around) where
   operator_sound at operator.AndNot x y i h k = binary_sound Arithmetic at operator.AndNot x y tt h k
   operator_sound at _ x y i h k = let e : false ≡ true = i in cc
 
-  abbrev CalleeSound : Callee → Type 0
+  abbrev pub CalleeSound : Callee → Type 0
   CalleeSound (a_function id ps rs v) = CallsSound p a id ps rs v
   CalleeSound _ = Unit {0}
 
@@ -134,7 +134,7 @@ module _ (p : CoreProgram) (a : Around) where
   callee_if true c h = tt
   callee_if false c h = h
 
-  callee_sound : (ss : List (List Bind)) → ScopesAreSound p a ss → (f : Expr) → CalleeSound (callee_of ss f)
+  pub callee_sound : (ss : List (List Bind)) → ScopesAreSound p a ss → (f : Expr) → CalleeSound (callee_of ss f)
   callee_sound ss h (NameExpr at x) = callee_if (is_blank x) (declared_callee (lookup x ss)) (declared_callee_sound (lookup x ss) (h x))
   callee_sound ss h (ParenExpr at x) = callee_sound ss h x
   callee_sound ss h _ = tt
@@ -195,11 +195,11 @@ module _ (p : CoreProgram) (a : Around) where
   of_value c (ty.named id) v h = (h.sound, h.gives)
 
   -- a value that was settled
-  abbrev AnswerValue : Answer → Type 0
+  abbrev pub AnswerValue : Answer → Type 0
   AnswerValue (value c t v) = IsValue p a c t v
   AnswerValue _ = Unit {0}
 
-  record IsAnswerValue (x : Answer) : Type 0 where
+  pub record IsAnswerValue (x : Answer) : Type 0 where
     pub is_value : AnswerValue x
 
   settled_value : (x : Settled) → IsSettled p a x → IsAnswerValue (settled_answer x)
@@ -210,7 +210,7 @@ module _ (p : CoreProgram) (a : Around) where
   wanted_operand_value at t None s h = record { is_value = tt }
   wanted_operand_value at t (Some x) s h = settled_value _ (settled_sound p a at t (passed_at p.names at t x) (passed_sound p a at t x s h))
 
-  wanted_value : (at : Place) (t : Ty) (x : Answer) → IsScalarType p t → IsSound p a x → IsAnswerValue (wanted p.names at t x)
+  pub wanted_value : (at : Place) (t : Ty) (x : Answer) → IsScalarType p t → IsSound p a x → IsAnswerValue (wanted p.names at t x)
   wanted_value at t (wrong f fs) s h = record { is_value = tt }
   wanted_value at t untyped_part s h = record { is_value = tt }
   wanted_value at t (value c u v) s h = wanted_operand_value at t (single (value c u v)) s (sound_single p a (value c u v) h)
@@ -237,7 +237,7 @@ module _ (p : CoreProgram) (a : Around) where
   alone_value at (does st) h = record { is_value = tt }
 
   -- a wanted value has the type that is wanted
-  abbrev HasTheType : Ty → Answer → Type 0
+  abbrev pub HasTheType : Ty → Answer → Type 0
   HasTheType u (value c t v) = t ≡ u
   HasTheType u _ = Unit {0}
 
@@ -250,7 +250,7 @@ module _ (p : CoreProgram) (a : Around) where
   operand_type at u None = tt
   operand_type at u (Some x) = at_the_type at u (passed_at p.names at u x)
 
-  wanted_type_is : (at : Place) (u : Ty) (x : Answer) → HasTheType u (wanted p.names at u x)
+  pub wanted_type_is : (at : Place) (u : Ty) (x : Answer) → HasTheType u (wanted p.names at u x)
   wanted_type_is at u (wrong f fs) = tt
   wanted_type_is at u untyped_part = tt
   wanted_type_is at u (value c t v) = operand_type at u (single (value c t v))
@@ -276,4 +276,4 @@ alone_are_sound p a ss scopes e o c t v h =
     let w = r.is_value in (w.sound, w.gives, w.scalar)
 
 pub prints_are_sound : PrintsAreSound
-prints_are_sound p a ss scopes e o s h = let r : IsSound p a (does s) = subst (IsSound p a) h (nodes p a ss scopes e o) in r.is_sound
+prints_are_sound p a ss scopes e o s h = let r : IsSound p a (does s) = subst (IsSound p a) h (nodes p a ss scopes e o) in let s = r.is_sound in s.0

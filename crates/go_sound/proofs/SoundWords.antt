@@ -136,6 +136,11 @@ default_scalar p basis.Str = refl
 
 -- ---- values
 
+-- no variable is declared by the statement itself
+abbrev pub DeclaresNothing : core.Stmt → Type 0
+DeclaresNothing (core.declare v) = ⊥
+DeclaresNothing s = Unit {0}
+
 module _ (p : CoreProgram) (a : Around) where
   abbrev pub FitsIf : Ty → Option Const → Type 0
   FitsIf t None = Unit {0}
@@ -185,12 +190,12 @@ module _ (p : CoreProgram) (a : Around) where
   abbrev pub AnswerSound : Answer → Type 0
   AnswerSound (value c (ty.untyped b) (Some k)) = Unit {0}
   AnswerSound (value c (ty.untyped b) None) = IsTruth c
-  AnswerSound (value c ty.nil v) = Unit {0}
-  AnswerSound (value c (ty.tuple ts) v) = SoundExpr p a c × (types_of p.names c ≡ listed_types ts) × AreScalarTypes p ts
+  AnswerSound (value c ty.nil v) = v ≡ None
+  AnswerSound (value c (ty.tuple ts) v) = SoundExpr p a c × (types_of p.names c ≡ listed_types ts) × AreScalarTypes p ts × (v ≡ None)
   AnswerSound (value c t v) = IsValue c t v
   AnswerSound (pending q b) = SoundPending q × HasShift q
   AnswerSound (type_ t) = IsScalarType p t
-  AnswerSound (does s) = SoundStmt p a s
+  AnswerSound (does s) = SoundStmt p a s × DeclaresNothing s
   AnswerSound _ = Unit {0}
 
   pub record IsSound (x : Answer) : Type 0 where
