@@ -1,0 +1,13 @@
+//! The values of a script while it runs, in 16 bytes each, the operators between them, and its
+//! arrays and dictionaries. ECMA-262 5.1, cut to a subset.
+#![tactic(auto)]
+
+pub mod dictionary;
+pub mod heap;
+pub mod operate;
+#[cfg(test)]
+mod tests;
+pub mod value;
+
+pub use heap::Object;
+pub use value::Value;
