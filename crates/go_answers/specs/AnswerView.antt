@@ -5,7 +5,6 @@ use Rattle.go_type.specs.Tree as ty
 use Rattle.go_type.specs.Levels.{tree_of}
 use Rattle.go_core.specs.CoreTree as core
 use Rattle.go_core.specs.CoreView.{expr_view, exprs_view}
-use Rattle.go_typing.specs.Env as env
 use Rattle.go_typing.specs.Env.{nowhere}
 use Rattle.go_typing.specs.Answer.{Flaw, flaw, wrong, untyped_part, value, pending, type_, package_, built_in, blank, does, fixed, shifted, further, signed, joined}
 use Rattle.go_typing.specs.Answer as tree
@@ -16,8 +15,7 @@ use Rattle.go_answers.specs.declared.answer.Flaws.{Flaws}
 use Rattle.go_answers.specs.declared.answer.Pending.{Pending, Pending-F, fold-Pending}
 use Rattle.go_answers.specs.declared.answer.Operand.{Operand}
 use Rattle.go_answers.specs.declared.answer.Operand.TheVariants as operand
-use Rattle.go_answers.specs.declared.answer.Builtin.{Builtin}
-use Rattle.go_answers.specs.declared.answer.Builtin.TheVariants as builtin
+use Rattle.go_rules.specs.BuiltinView.{builtin_view}
 use Rattle.go_answers.specs.declared.answer.Answer.{Answer}
 use Rattle.go_answers.specs.declared.answer.Answer.TheVariants as answer
 use Rattle.go_answers.specs.declared.answer.Passed.{Passed}
@@ -39,23 +37,6 @@ first_of (f ∷ fs) = f
 abbrev pub others_of : List Flaw → List Flaw
 others_of [] = []
 others_of (f ∷ fs) = fs
-
-abbrev pub builtin_view : Builtin → env.Builtin
-builtin_view builtin.Append = env.Append
-builtin_view builtin.Cap = env.Cap
-builtin_view builtin.Close = env.Close
-builtin_view builtin.Complex = env.Complex
-builtin_view builtin.Copy = env.Copy
-builtin_view builtin.Delete = env.Delete
-builtin_view builtin.Imag = env.Imag
-builtin_view builtin.Len = env.Len
-builtin_view builtin.Make = env.Make
-builtin_view builtin.New = env.New
-builtin_view builtin.Panic = env.Panic
-builtin_view builtin.Print = env.Print
-builtin_view builtin.Println = env.Println
-builtin_view builtin.Real = env.Real
-builtin_view builtin.Recover = env.Recover
 
 -- with the trees of the table's ids
 module _ (ts : List Ty) where

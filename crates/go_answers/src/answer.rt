@@ -7,6 +7,7 @@ ghost use Rattle.std.specs.Prelude.{◌<◌, length};
 use gj_base::{Op, Place, Text};
 use go_const::Const;
 use go_core::node::{CoreExpr, CoreExprs};
+use go_rules::builtin::Builtin;
 use go_type::types::{Basis, TypeId};
 
 /// A fault: its place, its code, and the name that its text tells, empty where it tells none.
@@ -72,26 +73,6 @@ pub enum Operand {
     Truth(CoreExpr),
     Pending(Pending, Basis),
     Nil,
-}
-
-/// A built-in function.
-#[derive(Clone, Copy, Debug, PartialEq, Eq)]
-pub enum Builtin {
-    Append,
-    Cap,
-    Close,
-    Complex,
-    Copy,
-    Delete,
-    Imag,
-    Len,
-    Make,
-    New,
-    Panic,
-    Print,
-    Println,
-    Real,
-    Recover,
 }
 
 /// What a node is.

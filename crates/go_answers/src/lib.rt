@@ -13,5 +13,3 @@ pub mod number;
 pub mod passed;
 pub mod pending;
 pub mod rule;
-#[cfg(test)]
-mod tests;

@@ -6,5 +6,3 @@ pub mod equality;
 pub mod fields;
 pub mod holds;
 pub mod layout;
-#[cfg(test)]
-mod tests;

@@ -6,5 +6,3 @@ pub mod convert;
 pub mod did;
 pub mod numbers;
 pub mod places;
-#[cfg(test)]
-mod tests;

@@ -5,8 +5,7 @@
 //! gives what its definition gives.
 #![tactic(auto)]
 
+pub mod builtin;
 pub mod constant;
 pub mod kind;
 pub mod operator;
-#[cfg(test)]
-mod tests;

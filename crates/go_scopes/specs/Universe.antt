@@ -3,8 +3,8 @@ use Rattle.std.specs.Prelude.{ℕ, List, [], ◌∷◌, ◌++◌, Bool, true, fa
 use Rattle.go_const.specs.declared.constant.Const.TheVariants as form
 use Rattle.go_type.specs.declared.types.TypeId.{TypeId}
 use Rattle.go_typing.specs.Env.{nowhere}
-use Rattle.go_scopes.specs.declared.declared.Builtin.{Builtin}
-use Rattle.go_scopes.specs.declared.declared.Builtin.TheVariants as one
+use Rattle.go_rules.specs.declared.builtin.Builtin.{Builtin}
+use Rattle.go_rules.specs.declared.builtin.Builtin.TheVariants as one
 use Rattle.go_scopes.specs.declared.declared.Declared.{Declared}
 use Rattle.go_scopes.specs.declared.declared.Declared.TheVariants as as_
 use Rattle.go_scopes.specs.Held.{Held, declare_held}

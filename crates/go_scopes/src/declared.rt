@@ -4,29 +4,8 @@ use gj_base::{Place, Text};
 use go_const::Const;
 use go_core::FuncId;
 use go_core::node::VarId;
+use go_rules::builtin::Builtin;
 use go_type::types::{Sig, TypeId};
-
-/// A predeclared function.
-///
-/// Go, "Predeclared identifiers".
-#[derive(Clone, Copy, Debug, PartialEq, Eq)]
-pub enum Builtin {
-    Append,
-    Cap,
-    Close,
-    Complex,
-    Copy,
-    Delete,
-    Imag,
-    Len,
-    Make,
-    New,
-    Panic,
-    Print,
-    Println,
-    Real,
-    Recover,
-}
 
 /// What a name stands for. Types are ids of the table of the environment.
 #[derive(Debug, Drop)]

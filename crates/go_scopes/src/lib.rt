@@ -13,9 +13,7 @@ mod iota;
 pub mod literal;
 mod packages;
 pub mod scope;
-#[cfg(test)]
-mod tests;
 mod universe;
 
-pub use declared::{Builtin, Declared};
+pub use declared::Declared;
 pub use env::Env;

@@ -7,10 +7,11 @@ ghost use Rattle.go_scopes.specs.Held.{declare_held};
 ghost use Rattle.go_scopes.specs.Holds.{held};
 ghost use Rattle.go_scopes.specs.Universe.{predeclared, first_types, signed_types, unsigned_types, values, first_functions, last_functions, universe_held, declare_all};
 
-use crate::declared::{Builtin, Declared};
+use crate::declared::Declared;
 use crate::scope::Scope;
 use gj_base::{NoMemory, Place, Text};
 use go_const::Const;
+use go_rules::builtin::Builtin;
 use go_type::types::TypeId;
 use std::alloc::Global;
 

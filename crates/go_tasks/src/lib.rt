@@ -9,5 +9,3 @@ pub mod open_expr;
 pub mod open_lists;
 pub mod open_stmt;
 pub mod task;
-#[cfg(test)]
-mod tests;

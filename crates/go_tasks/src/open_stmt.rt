@@ -10,7 +10,9 @@ ghost use Rattle.go_core.specs.CoreView.{stmts_view};
 ghost use Rattle.go_tasks.specs.Seen.{pieces_first, opened_at, stmts_listed, condition_of, tests_from, clauses_from};
 ghost use Rattle.go_tasks.specs.Weight.{pieces_weight, stmt_weight_at, bound_weight, tests_weight, clauses_weight};
 
-use crate::task::{ExprTask, Loop, LoopTask, Pieces, Switch, SwitchTask, Task};
+use crate::task::ExprTask::Evaluate;
+use crate::task::Task::{All, Expr, Leave, Nothing, Run};
+use crate::task::{Loop, LoopTask, Pieces, Switch, SwitchTask, Task};
 use go_core::statement::{CoreClauses, CoreStmt, CoreStmts};
 
 /// The one statement at a place: its operands, and then what it does itself.
@@ -19,40 +21,24 @@ pub fn open_one<'p>(list: &'p CoreStmts, at: usize) -> Pieces<'p>
     ensures smaller { (ts : List Ty) → pieces_weight ts result < stmt_weight_at (slice_get (stmts_listed ts list.now) at) }
 {
     if at >= list.items.len() {
-        return Pieces(Task::Nothing, Task::Nothing, Task::Nothing);
+        return Pieces(Nothing, Nothing, Nothing);
     }
     let own = Task::Do(list, at);
     match &list.items[at] {
-        CoreStmt::Seq(ss) => Pieces(Task::Run(ss, 0), Task::Nothing, Task::Nothing),
-        CoreStmt::Perform { operand, values: _ } => Pieces(
-            Task::Expr(ExprTask::Evaluate, operand),
-            own,
-            Task::Nothing,
-        ),
-        CoreStmt::Declare(_) => Pieces(own, Task::Nothing, Task::Nothing),
+        CoreStmt::Seq(ss) => Pieces(Run(ss, 0), Nothing, Nothing),
+        CoreStmt::Perform { operand, .. } => Pieces(Expr(Evaluate, operand), own, Nothing),
+        CoreStmt::Declare(_) => Pieces(own, Nothing, Nothing),
         CoreStmt::Store { targets, values } => Pieces(
             Task::Targets(targets, 0),
-            Task::All(values, 0),
+            All(values, 0),
             own,
         ),
-        CoreStmt::MapDelete {
-            map_type: _,
-            operand,
-            key,
-        } => Pieces(
-            Task::Expr(ExprTask::Evaluate, operand),
-            Task::Expr(ExprTask::Evaluate, key),
+        CoreStmt::MapDelete { operand, key, .. } => Pieces(
+            Expr(Evaluate, operand),
+            Expr(Evaluate, key),
             own,
         ),
-        CoreStmt::If {
-            condition,
-            when_true: _,
-            when_false: _,
-        } => Pieces(
-            Task::Expr(ExprTask::Evaluate, condition),
-            own,
-            Task::Nothing,
-        ),
+        CoreStmt::If { condition, .. } => Pieces(Expr(Evaluate, condition), own, Nothing),
         CoreStmt::Loop {
             label,
             condition,
@@ -65,11 +51,7 @@ pub fn open_one<'p>(list: &'p CoreStmts, at: usize) -> Pieces<'p>
                 body,
                 post,
             };
-            Pieces(
-                Task::Loop(LoopTask::Begin, parts),
-                Task::Nothing,
-                Task::Nothing,
-            )
+            Pieces(Task::Loop(LoopTask::Begin, parts), Nothing, Nothing)
         }
         CoreStmt::SwitchOn {
             label,
@@ -85,61 +67,42 @@ pub fn open_one<'p>(list: &'p CoreStmts, at: usize) -> Pieces<'p>
             };
             Pieces(
                 Task::Switch(SwitchTask::Test, parts),
-                Task::Leave(*label),
-                Task::Nothing,
+                Leave(*label),
+                Nothing,
             )
         }
-        CoreStmt::RangeNext {
-            label: _,
-            from: _,
-            operand,
-            key: _,
-            value: _,
-            body: _,
-        } => Pieces(Task::Expr(ExprTask::Evaluate, operand), own, Task::Nothing),
-        CoreStmt::Labeled { label, body } => Pieces(
-            Task::Run(body, 0),
-            Task::Leave(*label),
-            Task::Nothing,
-        ),
-        CoreStmt::Branch { kind: _, label: _ } => Pieces(own, Task::Nothing, Task::Nothing),
-        CoreStmt::Send {
-            channel: _,
-            operand,
-            value,
-        } => Pieces(
-            Task::Expr(ExprTask::Evaluate, operand),
-            Task::Expr(ExprTask::Evaluate, value),
+        CoreStmt::RangeNext { operand, .. } => Pieces(Expr(Evaluate, operand), own, Nothing),
+        CoreStmt::Labeled { label, body } => Pieces(Run(body, 0), Leave(*label), Nothing),
+        CoreStmt::Branch { .. } => Pieces(own, Nothing, Nothing),
+        CoreStmt::Send { operand, value, .. } => Pieces(
+            Expr(Evaluate, operand),
+            Expr(Evaluate, value),
             own,
         ),
-        CoreStmt::Close(e) => Pieces(Task::Expr(ExprTask::Evaluate, e), own, Task::Nothing),
-        CoreStmt::SelectStep {
-            label,
-            cases,
-            has_default: _,
-            default: _,
-        } => Pieces(Task::Cases(cases, 0), own, Task::Leave(*label)),
-        CoreStmt::GateTake(e) => Pieces(Task::Expr(ExprTask::Evaluate, e), own, Task::Nothing),
-        CoreStmt::GateAwait(e) => Pieces(Task::Expr(ExprTask::Evaluate, e), own, Task::Nothing),
-        CoreStmt::Yield => Pieces(own, Task::Nothing, Task::Nothing),
+        CoreStmt::Close(e) => Pieces(Expr(Evaluate, e), own, Nothing),
+        CoreStmt::SelectStep { label, cases, .. } => Pieces(
+            Task::Cases(cases, 0),
+            own,
+            Leave(*label),
+        ),
+        CoreStmt::GateTake(e) => Pieces(Expr(Evaluate, e), own, Nothing),
+        CoreStmt::GateAwait(e) => Pieces(Expr(Evaluate, e), own, Nothing),
+        CoreStmt::Yield => Pieces(own, Nothing, Nothing),
         CoreStmt::GoCall { callee, operands } => Pieces(
             Task::Callee(callee),
-            Task::All(operands, 0),
+            All(operands, 0),
             own,
         ),
         CoreStmt::DeferCall { callee, operands } => Pieces(
             Task::Callee(callee),
-            Task::All(operands, 0),
+            All(operands, 0),
             own,
         ),
-        CoreStmt::Return(es) => Pieces(Task::All(es, 0), own, Task::Nothing),
-        CoreStmt::Panic(e) => Pieces(Task::Expr(ExprTask::Evaluate, e), own, Task::Nothing),
-        CoreStmt::Print {
-            operands,
-            ends_line: _,
-        } => Pieces(Task::All(operands, 0), own, Task::Nothing),
-        CoreStmt::Exit(e) => Pieces(Task::Expr(ExprTask::Evaluate, e), own, Task::Nothing),
-        CoreStmt::Fatal(e) => Pieces(Task::Expr(ExprTask::Evaluate, e), own, Task::Nothing),
+        CoreStmt::Return(es) => Pieces(All(es, 0), own, Nothing),
+        CoreStmt::Panic(e) => Pieces(Expr(Evaluate, e), own, Nothing),
+        CoreStmt::Print { operands, .. } => Pieces(All(operands, 0), own, Nothing),
+        CoreStmt::Exit(e) => Pieces(Expr(Evaluate, e), own, Nothing),
+        CoreStmt::Fatal(e) => Pieces(Expr(Evaluate, e), own, Nothing),
     }
 }
 
@@ -150,8 +113,8 @@ pub fn begin_loop<'p>(parts: Loop<'p>) -> Pieces<'p>
 {
     let turn = Task::Loop(LoopTask::Turn, parts);
     match parts.condition {
-        Some(e) => Pieces(Task::Expr(ExprTask::Evaluate, e), turn, Task::Nothing),
-        None => Pieces(turn, Task::Nothing, Task::Nothing),
+        Some(e) => Pieces(Expr(Evaluate, e), turn, Nothing),
+        None => Pieces(turn, Nothing, Nothing),
     }
 }
 
@@ -162,12 +125,12 @@ pub fn next_test<'p>(parts: Switch<'p>) -> Pieces<'p>
 {
     let choice = Task::Switch(SwitchTask::Choose, parts);
     if parts.from >= parts.tests.items.len() {
-        return Pieces(choice, Task::Nothing, Task::Nothing);
+        return Pieces(choice, Nothing, Nothing);
     }
     Pieces(
-        Task::Expr(ExprTask::Evaluate, &parts.tests.items[parts.from].condition),
+        Expr(Evaluate, &parts.tests.items[parts.from].condition),
         choice,
-        Task::Nothing,
+        Nothing,
     )
 }
 
@@ -177,12 +140,12 @@ pub fn open_clause<'p>(clauses: &'p CoreClauses, at: usize) -> Pieces<'p>
     ensures smaller { (ts : List Ty) → pieces_weight ts result < clauses_weight (clauses_from ts clauses.now at) }
 {
     if at >= clauses.items.len() {
-        return Pieces(Task::Nothing, Task::Nothing, Task::Nothing);
+        return Pieces(Nothing, Nothing, Nothing);
     }
     let clause = &clauses.items[at];
-    let body = Task::Run(&clause.body, 0);
+    let body = Run(&clause.body, 0);
     if clause.falls_through {
-        return Pieces(body, Task::Clause(clauses, at + 1), Task::Nothing);
+        return Pieces(body, Task::Clause(clauses, at + 1), Nothing);
     }
-    Pieces(body, Task::Nothing, Task::Nothing)
+    Pieces(body, Nothing, Nothing)
 }

@@ -26,8 +26,6 @@ mod shallow;
 mod sizes;
 pub mod steps;
 pub mod table;
-#[cfg(test)]
-mod tests;
 mod tries;
 pub mod types;
 mod walk;

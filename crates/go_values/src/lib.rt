@@ -7,6 +7,4 @@ pub mod memory;
 pub mod output;
 pub mod run_panic;
 pub mod scalar;
-#[cfg(test)]
-mod tests;
 pub mod text;
