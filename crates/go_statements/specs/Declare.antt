@@ -11,7 +11,7 @@ use Rattle.go_type.specs.Underlying.{underlying}
 use Rattle.go_core.specs.SameType.{same_type}
 use Rattle.go_core.specs.CoreTree as core
 use Rattle.go_core.specs.CoreTree.{Target, blank, to_place}
-use Rattle.go_typing.specs.Env.{Decl, constant, type_name, unknown, Bind, iota_in}
+use Rattle.go_typing.specs.Env.{Decl, constant, type_name, unknown, Bind, iota_in, is_blank}
 use Rattle.go_typing.specs.Answer.{Flaw, flaw, Answer, value, pending, wrong, untyped_part}
 use Rattle.go_typing.specs.Convert.{is_scalar}
 use Rattle.go_typing.specs.Typing.{place_of}
@@ -218,8 +218,9 @@ const_specs at n u ys (t.MoreValues ns v (t.MoreExprs z zs) vs) w = and_then (co
 
 -- ---- types
 
+-- the name itself, also in parentheses; `_` is declared nowhere, so it is no name's own
 abbrev pub is_bare : List ℕ → t.Expr → Bool
-is_bare x (t.NameExpr at y) = bytes_eq x y
+is_bare x (t.NameExpr at y) = if is_blank y then false else bytes_eq x y
 is_bare x (t.ParenExpr at e) = is_bare x e
 is_bare x e = false
 

@@ -1,17 +1,25 @@
--- Labels. Go specification (as of Go 1.17), "Labeled statements", "Label scopes": the labels of a function's body.
+-- Labels. Go specification (as of Go 1.17), "Labeled statements", "Label scopes", "Blank identifier": the labels of a function's body.
 use Rattle.std.specs.Prelude.{ℕ, List, [], ◌∷◌, ◌++◌, Bool, false, ◌||◌, Option, Some, None, bytes_eq, if◌then◌else◌}
 use Rattle.go_syntax.specs.Tree as t
 use Rattle.go_syntax.specs.declared.tree.Name.{Name}
+use Rattle.go_typing.specs.Env.{is_blank}
 use Rattle.go_typing.specs.Answer.{Flaw}
+
+-- what a label declares; "Blank identifier": `_` is declared nowhere
+abbrev pub label_of : Name → Option (List ℕ)
+label_of n = if is_blank n.text then None else Some n.text
+
+abbrev pub declared_label : Name → List Name
+declared_label n = if is_blank n.text then [] else n ∷ []
 
 abbrev pub name_in : Option Name → List (List ℕ)
 name_in None = []
 name_in (Some n) = n.text ∷ []
 
 abbrev mutual
-  -- labels, and the labels that branches name, in the order of the text; those of function literals are others
+  -- labels that are declared, and the labels that branches name, in the order of the text; those of function literals are others
   pub labels_in : t.Stmt → List Name
-  labels_in (t.LabeledStmt at n s) = n ∷ labels_in s
+  labels_in (t.LabeledStmt at n s) = declared_label n ++ labels_in s
   labels_in (t.BlockStmt at b) = labels_in_block b
   labels_in (t.IfStmt at init x b other) = labels_in_block b ++ labels_in_maybe other
   labels_in (t.ForStmt at init x post b) = labels_in_block b

@@ -103,6 +103,19 @@ pub record RowsControl : Type 0 where
   pub label_of_another : told (block 0 ((t.LabeledStmt (at 2) (id (codes "L") 2) (t.ForStmt (at 5) t.NoStmt t.NoExpr t.NoStmt (block 9 ((t.BreakStmt (at 11) (Some (id (codes "L") 17))) ∷ []) 19))) ∷ (t.ForStmt (at 22) t.NoStmt t.NoExpr t.NoStmt (block 26 ((t.BreakStmt (at 28) (Some (id (codes "L") 34))) ∷ []) 36)) ∷ []) 38) ≡ fault 34 89 ∷ []
   -- `{ x = 4; break }`
   pub break_after_another_fault : told (block 0 ((t.AssignStmt (at 2) (exprs ((name (codes "x") 2) ∷ [])) None (exprs ((num (codes "4") 6) ∷ []))) ∷ (t.BreakStmt (at 9) None) ∷ []) 15) ≡ named_fault 2 50 (codes "x") ∷ fault 9 89 ∷ []
+  -- a label `_` is declared nowhere
+  -- `{ _: for { break } }`
+  pub blank_label : told (block 0 ((t.LabeledStmt (at 2) (id (codes "_") 2) (t.ForStmt (at 5) t.NoStmt t.NoExpr t.NoStmt (block 9 ((t.BreakStmt (at 11) None) ∷ []) 17))) ∷ []) 19) ≡ []
+  -- `{ _: ; _: ; }`
+  pub blank_labels : told (block 0 ((t.LabeledStmt (at 2) (id (codes "_") 2) (t.EmptyStmt (at 5))) ∷ (t.LabeledStmt (at 7) (id (codes "_") 7) (t.EmptyStmt (at 10))) ∷ []) 12) ≡ []
+  -- `{ _: for { break _ } }`
+  pub break_to_blank : told (block 0 ((t.LabeledStmt (at 2) (id (codes "_") 2) (t.ForStmt (at 5) t.NoStmt t.NoExpr t.NoStmt (block 9 ((t.BreakStmt (at 11) (Some (id (codes "_") 17))) ∷ []) 19))) ∷ []) 21) ≡ fault 17 89 ∷ []
+  -- `{ _: for { continue _ } }`
+  pub continue_of_blank : told (block 0 ((t.LabeledStmt (at 2) (id (codes "_") 2) (t.ForStmt (at 5) t.NoStmt t.NoExpr t.NoStmt (block 9 ((t.ContinueStmt (at 11) (Some (id (codes "_") 20))) ∷ []) 22))) ∷ []) 24) ≡ fault 20 89 ∷ []
+  -- `{ _: L: for { break L } }`
+  pub label_after_blank : told (block 0 ((t.LabeledStmt (at 2) (id (codes "_") 2) (t.LabeledStmt (at 5) (id (codes "L") 5) (t.ForStmt (at 8) t.NoStmt t.NoExpr t.NoStmt (block 12 ((t.BreakStmt (at 14) (Some (id (codes "L") 20))) ∷ []) 22)))) ∷ []) 24) ≡ []
+  -- `{ L: _: for { break L } }`: the loop has the label before it alone
+  pub label_before_blank : told (block 0 ((t.LabeledStmt (at 2) (id (codes "L") 2) (t.LabeledStmt (at 5) (id (codes "_") 5) (t.ForStmt (at 8) t.NoStmt t.NoExpr t.NoStmt (block 12 ((t.BreakStmt (at 14) (Some (id (codes "L") 20))) ∷ []) 22)))) ∷ []) 24) ≡ fault 20 89 ∷ []
   -- results (88, 87)
   -- `{ return 4 }`
   pub result : told_in (one_type int) (block 0 ((t.ReturnStmt (at 2) (exprs ((num (codes "4") 9) ∷ []))) ∷ []) 11) ≡ []

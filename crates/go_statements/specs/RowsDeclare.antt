@@ -94,3 +94,20 @@ pub record RowsDeclare : Type 0 where
   pub of_an_undefined_type : told (block 0 ((t.DeclStmt (at 2) (t.TypeDecl (at 2) (t.MoreTypes (id (codes "T") 7) false (name (codes "x") 9) t.NoTypes))) ∷ (t.DeclStmt (at 12) (t.VarDecl (at 12) (spec ((id (codes "y") 16) ∷ []) (t.AnExpr (name (codes "T") 18)) ([]) t.NoValues))) ∷ (t.AssignStmt (at 21) (exprs ((name (codes "_") 21) ∷ [])) None (exprs ((name (codes "y") 25) ∷ []))) ∷ []) 27) ≡ named_fault 9 50 (codes "x") ∷ []
   -- `{ type T int; type T string; var x T = 4; _ = x }`
   pub type_twice : told (block 0 ((t.DeclStmt (at 2) (t.TypeDecl (at 2) (t.MoreTypes (id (codes "T") 7) false (name (codes "int") 9) t.NoTypes))) ∷ (t.DeclStmt (at 14) (t.TypeDecl (at 14) (t.MoreTypes (id (codes "T") 19) false (name (codes "string") 21) t.NoTypes))) ∷ (t.DeclStmt (at 29) (t.VarDecl (at 29) (spec ((id (codes "x") 33) ∷ []) (t.AnExpr (name (codes "T") 35)) ((num (codes "4") 39) ∷ []) t.NoValues))) ∷ (t.AssignStmt (at 42) (exprs ((name (codes "_") 42) ∷ [])) None (exprs ((name (codes "x") 46) ∷ []))) ∷ []) 48) ≡ named_fault 19 82 (codes "T") ∷ []
+  -- `_` is declared nowhere: as a type it is 51, as a value 52
+  -- `{ type _ _ }`
+  pub blank_type : told (block 0 ((t.DeclStmt (at 2) (t.TypeDecl (at 2) (t.MoreTypes (id (codes "_") 7) false (name (codes "_") 9) t.NoTypes))) ∷ []) 11) ≡ fault 9 51 ∷ []
+  -- `{ type _ (_) }`
+  pub blank_type_in_parentheses : told (block 0 ((t.DeclStmt (at 2) (t.TypeDecl (at 2) (t.MoreTypes (id (codes "_") 7) false (paren 9 (name (codes "_") 10)) t.NoTypes))) ∷ []) 13) ≡ fault 9 51 ∷ []
+  -- `{ type _ = _ }`
+  pub blank_alias : told (block 0 ((t.DeclStmt (at 2) (t.TypeDecl (at 2) (t.MoreTypes (id (codes "_") 7) true (name (codes "_") 11) t.NoTypes))) ∷ []) 13) ≡ fault 11 51 ∷ []
+  -- `{ type _ int; type _ string }`
+  pub blank_types : told (block 0 ((t.DeclStmt (at 2) (t.TypeDecl (at 2) (t.MoreTypes (id (codes "_") 7) false (name (codes "int") 9) t.NoTypes))) ∷ (t.DeclStmt (at 14) (t.TypeDecl (at 14) (t.MoreTypes (id (codes "_") 19) false (name (codes "string") 21) t.NoTypes))) ∷ []) 28) ≡ []
+  -- `{ var _ _ }`
+  pub variable_of_blank_type : told (block 0 ((t.DeclStmt (at 2) (t.VarDecl (at 2) (spec ((id (codes "_") 6) ∷ []) (t.AnExpr (name (codes "_") 8)) ([]) t.NoValues))) ∷ []) 10) ≡ fault 8 51 ∷ []
+  -- `{ var _ = _ }`
+  pub variable_of_blank : told (block 0 ((t.DeclStmt (at 2) (t.VarDecl (at 2) (spec ((id (codes "_") 6) ∷ []) t.NoExpr ((name (codes "_") 10) ∷ []) t.NoValues))) ∷ []) 12) ≡ fault 10 52 ∷ []
+  -- `{ const _ _ = 4 }`
+  pub constant_of_blank_type : told (block 0 ((t.DeclStmt (at 2) (t.ConstDecl (at 2) (spec ((id (codes "_") 8) ∷ []) (t.AnExpr (name (codes "_") 10)) ((num (codes "4") 14) ∷ []) t.NoValues))) ∷ []) 16) ≡ fault 10 51 ∷ []
+  -- `{ const _ = _ }`
+  pub constant_of_blank : told (block 0 ((t.DeclStmt (at 2) (t.ConstDecl (at 2) (spec ((id (codes "_") 8) ∷ []) t.NoExpr ((name (codes "_") 12) ∷ []) t.NoValues))) ∷ []) 14) ≡ fault 12 52 ∷ []

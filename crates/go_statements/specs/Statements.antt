@@ -24,7 +24,7 @@ use Rattle.go_statements.specs.Walk.{Walk, Around, Target, Did, did, faulty, and
 use Rattle.go_statements.specs.Expressions.{Valued, answer_in, flaws_in, value_at, value_alone, condition, core_of, type_of, constant_of}
 use Rattle.go_statements.specs.Assign.{assign, update, step, define, where_typed, all_typed, all_in_flaws, same_number, several_right, first_right, first_place}
 use Rattle.go_statements.specs.Declare.{decl}
-use Rattle.go_statements.specs.Labels.{labels_told}
+use Rattle.go_statements.specs.Labels.{label_of, labels_told}
 
 -- own: a statement that is not built yet
 abbrev pub not_built : Place → t.Stmt → Walk → Did
@@ -321,7 +321,7 @@ abbrev mutual
   stmt (t.ContinueStmt at n) a w = branch at continue_ true n a w
   -- one that ends a clause is taken off there (91)
   stmt (t.FallthroughStmt at) a w = faulty (flaw at 91 ∷ []) w
-  stmt (t.LabeledStmt at n s) a w = stmt s (record a { label = Some n.text }) w
+  stmt (t.LabeledStmt at n s) a w = stmt s (record a { label = label_of n }) w
 
   pub maybe : t.MaybeStmt → Around → Walk → Did
   maybe t.NoStmt a w = did [] w

@@ -46,5 +46,13 @@ returns _ = record {
     of_itself = refl;
     of_an_undefined_type = refl;
     type_twice = refl;
+    blank_type = refl;
+    blank_type_in_parentheses = refl;
+    blank_alias = refl;
+    blank_types = refl;
+    variable_of_blank_type = refl;
+    variable_of_blank = refl;
+    constant_of_blank_type = refl;
+    constant_of_blank = refl;
   };
 }
