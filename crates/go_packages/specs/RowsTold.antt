@@ -115,6 +115,21 @@ pub record RowsTold : Type 0 where
   pub named_type_in_functions : fault_of ((t.TypeDecl (at 14) (t.MoreTypes (id (codes "T") 19) false (name (codes "int") 21) t.NoTypes)) ∷ (t.FuncDecl (at 25) (id (codes "f") 30) (t.SigOf (at 31) (params (with_type (id (codes "x") 32) false (name (codes "T") 34) ∷ [])) (t.OneResult (name (codes "T") 37))) (block 39 ((t.ReturnStmt (at 41) (exprs ((two (name (codes "x") 48) operator.Add (num (codes "1") 52)) ∷ []))) ∷ []) 54)) ∷ (t.FuncDecl (at 56) (id (codes "main") 61) (t.SigOf (at 65) (params ([])) t.NoResults) (block 68 ((t.ExprStmt (at 70) (exprs ((call (name (codes "println") 70) ((call (name (codes "f") 78) ((num (codes "4") 80) ∷ [])) ∷ [])) ∷ []))) ∷ []) 84)) ∷ []) ≡ None
   -- `type T int; func f(x T) { println(x) }; func main() { var y int = 4; f(y) }`
   pub other_named_type : fault_of ((t.TypeDecl (at 14) (t.MoreTypes (id (codes "T") 19) false (name (codes "int") 21) t.NoTypes)) ∷ (t.FuncDecl (at 25) (id (codes "f") 30) (t.SigOf (at 31) (params (with_type (id (codes "x") 32) false (name (codes "T") 34) ∷ [])) t.NoResults) (block 37 ((t.ExprStmt (at 39) (exprs ((call (name (codes "println") 39) ((name (codes "x") 47) ∷ [])) ∷ []))) ∷ []) 50)) ∷ (t.FuncDecl (at 52) (id (codes "main") 57) (t.SigOf (at 61) (params ([])) t.NoResults) (block 64 ((t.DeclStmt (at 66) (t.VarDecl (at 66) (spec ((id (codes "y") 70) ∷ []) (t.AnExpr (name (codes "int") 72)) ((num (codes "4") 78) ∷ []) t.NoValues))) ∷ (t.ExprStmt (at 81) (exprs ((call (name (codes "f") 81) ((name (codes "y") 83) ∷ [])) ∷ []))) ∷ []) 86)) ∷ []) ≡ Some (fault 83 61)
+  -- `_` is declared nowhere: as a type it is 51, as a value 52, and no label
+  -- `type _ _; func main() { }`
+  pub blank_type : fault_of ((t.TypeDecl (at 14) (t.MoreTypes (id (codes "_") 19) false (name (codes "_") 21) t.NoTypes)) ∷ (t.FuncDecl (at 24) (id (codes "main") 29) (t.SigOf (at 33) (params ([])) t.NoResults) (block 36 ([]) 38)) ∷ []) ≡ Some (fault 21 51)
+  -- `type _ = _; func main() { }`
+  pub blank_alias : fault_of ((t.TypeDecl (at 14) (t.MoreTypes (id (codes "_") 19) true (name (codes "_") 23) t.NoTypes)) ∷ (t.FuncDecl (at 26) (id (codes "main") 31) (t.SigOf (at 35) (params ([])) t.NoResults) (block 38 ([]) 40)) ∷ []) ≡ Some (fault 23 51)
+  -- `const _ = _; func main() { }`
+  pub constant_of_blank : fault_of ((t.ConstDecl (at 14) (spec ((id (codes "_") 20) ∷ []) t.NoExpr ((name (codes "_") 24) ∷ []) t.NoValues)) ∷ (t.FuncDecl (at 27) (id (codes "main") 32) (t.SigOf (at 36) (params ([])) t.NoResults) (block 39 ([]) 41)) ∷ []) ≡ Some (fault 24 52)
+  -- `func main() { type _ _ }`
+  pub blank_type_in_a_body : fault_of ((t.FuncDecl (at 14) (id (codes "main") 19) (t.SigOf (at 23) (params ([])) t.NoResults) (block 26 ((t.DeclStmt (at 28) (t.TypeDecl (at 28) (t.MoreTypes (id (codes "_") 33) false (name (codes "_") 35) t.NoTypes))) ∷ []) 37)) ∷ []) ≡ Some (fault 35 51)
+  -- `func main() { _: for { break } }`
+  pub blank_label : fault_of ((t.FuncDecl (at 14) (id (codes "main") 19) (t.SigOf (at 23) (params ([])) t.NoResults) (block 26 ((t.LabeledStmt (at 28) (id (codes "_") 28) (t.ForStmt (at 31) t.NoStmt t.NoExpr t.NoStmt (block 35 ((t.BreakStmt (at 37) None) ∷ []) 43))) ∷ []) 45)) ∷ []) ≡ None
+  -- `func main() { _: for { break _ } }`
+  pub break_to_blank : fault_of ((t.FuncDecl (at 14) (id (codes "main") 19) (t.SigOf (at 23) (params ([])) t.NoResults) (block 26 ((t.LabeledStmt (at 28) (id (codes "_") 28) (t.ForStmt (at 31) t.NoStmt t.NoExpr t.NoStmt (block 35 ((t.BreakStmt (at 37) (Some (id (codes "_") 43))) ∷ []) 45))) ∷ []) 47)) ∷ []) ≡ Some (fault 43 89)
+  -- `func main() { _: ; _: ; }`
+  pub blank_labels : fault_of ((t.FuncDecl (at 14) (id (codes "main") 19) (t.SigOf (at 23) (params ([])) t.NoResults) (block 26 ((t.LabeledStmt (at 28) (id (codes "_") 28) (t.EmptyStmt (at 31))) ∷ (t.LabeledStmt (at 33) (id (codes "_") 33) (t.EmptyStmt (at 36))) ∷ []) 38)) ∷ []) ≡ None
   -- not built yet (0)
   -- `var x int; func main() { }`
   pub package_variable : fault_of ((t.VarDecl (at 14) (spec ((id (codes "x") 18) ∷ []) (t.AnExpr (name (codes "int") 20)) ([]) t.NoValues)) ∷ (t.FuncDecl (at 24) (id (codes "main") 29) (t.SigOf (at 33) (params ([])) t.NoResults) (block 36 ([]) 38)) ∷ []) ≡ Some (fault 14 0)
@@ -128,3 +143,7 @@ pub record RowsTold : Type 0 where
   pub variadic_parameter : fault_of ((t.FuncDecl (at 14) (id (codes "f") 19) (t.SigOf (at 20) (params (with_type (id (codes "x") 21) true (name (codes "int") 26) ∷ [])) t.NoResults) (block 31 ([]) 33)) ∷ (t.FuncDecl (at 35) (id (codes "main") 40) (t.SigOf (at 44) (params ([])) t.NoResults) (block 47 ([]) 49)) ∷ []) ≡ Some (fault 21 0)
   -- `type T []T; func main() { }`
   pub type_form : fault_of ((t.TypeDecl (at 14) (t.MoreTypes (id (codes "T") 19) false (t.SliceType (at 21) (name (codes "T") 23)) t.NoTypes)) ∷ (t.FuncDecl (at 25) (id (codes "main") 30) (t.SigOf (at 34) (params ([])) t.NoResults) (block 37 ([]) 39)) ∷ []) ≡ Some (fault 21 0)
+  -- `type _ []_; func main() { }`
+  pub type_form_of_blank : fault_of ((t.TypeDecl (at 14) (t.MoreTypes (id (codes "_") 19) false (t.SliceType (at 21) (name (codes "_") 23)) t.NoTypes)) ∷ (t.FuncDecl (at 26) (id (codes "main") 31) (t.SigOf (at 35) (params ([])) t.NoResults) (block 38 ([]) 40)) ∷ []) ≡ Some (fault 21 0)
+  -- `var _ = _; func main() { }`
+  pub package_variable_of_blank : fault_of ((t.VarDecl (at 14) (spec ((id (codes "_") 18) ∷ []) t.NoExpr ((name (codes "_") 22) ∷ []) t.NoValues)) ∷ (t.FuncDecl (at 25) (id (codes "main") 30) (t.SigOf (at 34) (params ([])) t.NoResults) (block 37 ([]) 39)) ∷ []) ≡ Some (fault 14 0)

@@ -54,11 +54,20 @@ returns _ = record {
     least_of_two_bodies = refl;
     named_type_in_functions = refl;
     other_named_type = refl;
+    blank_type = refl;
+    blank_alias = refl;
+    constant_of_blank = refl;
+    blank_type_in_a_body = refl;
+    blank_label = refl;
+    break_to_blank = refl;
+    blank_labels = refl;
     package_variable = refl;
     use_of_a_package_variable = refl;
     init_function = refl;
     method = refl;
     variadic_parameter = refl;
     type_form = refl;
+    type_form_of_blank = refl;
+    package_variable_of_blank = refl;
   };
 }
