@@ -17,6 +17,7 @@ use Rattle.go_statements.specs.Walk.{Walk, Around, Did, pushed, within, with_nam
 use Rattle.go_statements.specs.Expressions.{answer_in}
 use Rattle.go_statements.specs.Assign.{first_right, several_right, same_number}
 use Rattle.go_statements.specs.Declare.{SpecType, lost_type, spec_type, type_uses, declare_one, var_each, zero_type, var_zero, spec_or, var_types, names_count, names_number, var_call, var_by, var_values, var_spec, var_specs, counting, constant_value, declare_constant, const_each, const_unknown, const_spec, const_specs, is_bare, new_named, declare_type, type_spec, type_specs, decl}
+use Rattle.go_statements.specs.Labels.{label_of}
 use Rattle.go_statements.specs.Statements.{performed, called_in, expression, if_did, condition_uses, for_did, next_label, unlabeled, with_target, post_did, Clauses, one_clause, switch_did, is_empty, returned_call, returned_by, returned_to, returned_in, branch_did, branch, innermost, target_named, falls, is_last, is_default, case_tests, Tests, count_types, stmt, maybe, block, stmts, clause_stmts, clauses, function_body}
 use Rattle.go_packages.specs.Signature.{Param, bound, bound_name, all_bound, inside, params_of, results_of, type_of_param, sig_types}
 use Rattle.go_packages.specs.Items.{is_init}
@@ -240,7 +241,7 @@ mutual
   stmt_on (t.BreakStmt at n) a w = branch_on at core.break_ false n a w
   stmt_on (t.ContinueStmt at n) a w = branch_on at core.continue_ true n a w
   stmt_on (t.FallthroughStmt at) a w = stays w
-  stmt_on (t.LabeledStmt at n s) a w = stmt_on s (record a { label = Some n.text }) w
+  stmt_on (t.LabeledStmt at n s) a w = stmt_on s (record a { label = label_of n }) w
 
   pub maybe_on : (s : t.MaybeStmt) (a : Around) (w : Walk) → GoesOn w (maybe s a w).walk
   maybe_on t.NoStmt a w = stays w
