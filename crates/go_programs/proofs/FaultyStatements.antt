@@ -9,7 +9,7 @@ use Rattle.go_typing.specs.Typing.{place_of}
 use Rattle.go_typing.specs.Faulty.{IsIn, HasFault}
 use Rattle.go_statements.specs.Walk.{Walk, Around, Did, fresh, pushed, within, uses, uses_all, unused}
 use Rattle.go_statements.specs.Expressions.{flaws_in, value_alone, condition, type_of}
-use Rattle.go_statements.specs.Labels.{labels_told}
+use Rattle.go_statements.specs.Labels.{label_of, labels_told}
 use Rattle.go_statements.specs.Statements.{unlabeled, with_target, next_label, condition_told, condition_uses, post_did, tag_of, case_answer, case_constant, repeated, repeated_flaws, and_constant, case_tests, Clauses, default_flaws, falls, is_last, is_default, switch_did, stmt, maybe, block, stmts, clause_stmts, clauses, missing_return, where_clean}
 use Rattle.go_programs.specs.FaultyStatements.{HasConditionFault, HasPostFault, HasTagFault, tag_type, SomeCaseFault, HasStmtFault, HasMaybeFault, HasBlockFault, HasStmtsFault, HasClauseFault, HasClausesFault, StatementsToldExactly, BodiesToldExactly}
 use Rattle.go_programs.proofs.Exactly.{both, same, one, node_exact}
@@ -109,7 +109,7 @@ module _ (f : Flaw) where
     stmt_exact (t.BreakStmt at n) a w = same f _
     stmt_exact (t.ContinueStmt at n) a w = same f _
     stmt_exact (t.FallthroughStmt at) a w = one f (flaw at 91)
-    stmt_exact (t.LabeledStmt at n s) a w = stmt_exact s (record a { label = Some n.text }) w
+    stmt_exact (t.LabeledStmt at n s) a w = stmt_exact s (record a { label = label_of n }) w
 
     maybe_exact : (s : t.MaybeStmt) (a : Around) (w : Walk) → IsIn f (maybe s a w).flaws ↔ HasMaybeFault s a w f
     maybe_exact t.NoStmt a w = same f ⊥

@@ -18,6 +18,7 @@ use Rattle.go_typing.specs.Typing.{place_of}
 use Rattle.go_statements.specs.Walk.{Walk, Around, Did, and_then, within, pushed, body, fresh, uses, uses_all}
 use Rattle.go_statements.specs.Expressions.{value_alone, core_of, type_of, answer_in}
 use Rattle.go_statements.specs.Assign.{count_of, same_number, several_right, first_right, assign_by, update_left, update, left_of, one_, step_op, step, left_uses, first_place, Left, left_blank, left_place, left_wrong, miscounted}
+use Rattle.go_statements.specs.Labels.{label_of}
 use Rattle.go_statements.specs.Statements.{called_in, expression, if_did, with_target, unlabeled, for_did, post_did, condition_uses, next_label, Clauses, falls, is_last, is_default, switch_did, stmt, maybe, block, stmts, clause_stmts, clauses}
 use Rattle.go_typing.specs.Answer.{Part}
 use Rattle.gj_base.specs.declared.kind.Op.{Op}
@@ -271,7 +272,7 @@ module _ (p : CoreProgram) where
     stmt_done (t.BreakStmt at n) o a b vs w s k h = break_done p a vs b w s at n h
     stmt_done (t.ContinueStmt at n) o a b vs w s k h = continue_done p a vs b w s at n h
     stmt_done (t.FallthroughStmt at) o a b vs w s k h = cc
-    stmt_done (t.LabeledStmt at n x) o a b vs w s k h = stmt_done x o a (record b { label = Some n.text }) vs w (relabeled p a vs b (Some n.text) w s) k h
+    stmt_done (t.LabeledStmt at n x) o a b vs w s k h = stmt_done x o a (record b { label = label_of n }) vs w (relabeled p a vs b (label_of n) w s) k h
 
     maybe_done : (s : t.MaybeStmt) → MaybeOfGrammar s → (a : node.Around) (b : Around) → DoneBy p a b (maybe s b)
     maybe_done t.NoStmt o a b vs w s k h = done_none p a vs b w s

@@ -14,7 +14,7 @@ use Rattle.go_statements.specs.Walk.{Walk, Around, fresh, pushed, within, uses, 
 use Rattle.go_statements.specs.Expressions.{value_alone, condition}
 use Rattle.go_statements.specs.Assign.{assign, update, step, define, where_typed, all_typed, all_in_flaws, first_place}
 use Rattle.go_statements.specs.Declare.{decl}
-use Rattle.go_statements.specs.Labels.{labels_told}
+use Rattle.go_statements.specs.Labels.{label_of, labels_told}
 use Rattle.go_statements.specs.Statements.{expression, unlabeled, with_target, next_label, condition_uses, post_did, tag_of, case_answer, case_constant, repeated, and_constant, case_tests, falls, is_last, is_default, returned, branch, stmt, maybe, block, stmts, clause_stmts, missing_return, function_body}
 
 abbrev pub HasConditionFault : Walk → t.MaybeExpr → Flaw → Type 0
@@ -75,7 +75,7 @@ abbrev mutual
   HasStmtFault (t.BreakStmt at n) a w f = IsIn f (branch at break_ false n a w).flaws
   HasStmtFault (t.ContinueStmt at n) a w f = IsIn f (branch at continue_ true n a w).flaws
   HasStmtFault (t.FallthroughStmt at) a w f = f ≡ flaw at 91
-  HasStmtFault (t.LabeledStmt at n s) a w f = HasStmtFault s (record a { label = Some n.text }) w f
+  HasStmtFault (t.LabeledStmt at n s) a w f = HasStmtFault s (record a { label = label_of n }) w f
 
   pub HasMaybeFault : t.MaybeStmt → Around → Walk → Flaw → Type 0
   HasMaybeFault t.NoStmt a w f = ⊥
