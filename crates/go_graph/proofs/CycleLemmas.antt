@@ -1,12 +1,12 @@
 -- What is tested says which nodes are on a cycle.
-use Rattle.std.proofs.Common.{arith, ◌≡◌, ◌<◌, ◌≤◌, ℕ, zero, suc, ◌∙◌, refl, sym, ap, subst, List, [], ◌∷◌, ◌++◌, Some, Bool, false, true≢false, length, get_or, slice_get, inl, inr}
+use Rattle.std.proofs.Common.{arith, ◌≡◌, ◌<◌, ◌≤◌, ℕ, zero, suc, refl, sym, ap, subst, List, [], ◌∷◌, ◌++◌, Some, Bool, false, length, get_or, slice_get, inl, inr}
 use Rattle.std.specs.Prelude.{IsTrue, ◌↔◌}
 use Rattle.go_graph.specs.Cycle.{Edge, Walks, IsOnCycle}
 use Rattle.go_graph.specs.Joined.{number, Falls, first_of, Joins, JoinsAll, Stays}
 use Rattle.go_graph.proofs.ListLemmas.{less_or}
 
 -- one way after another
-join : (es : List (List ℕ)) (i : ℕ) (ks : List ℕ) (j : ℕ) (ls : List ℕ) (m : ℕ) → Walks es i ks j → Walks es j ls m → Walks es i (ks ++ ls) m
+pub join : (es : List (List ℕ)) (i : ℕ) (ks : List ℕ) (j : ℕ) (ls : List ℕ) (m : ℕ) → Walks es i ks j → Walks es j ls m → Walks es i (ks ++ ls) m
 join es i [] j ls m w v = subst (λ (x : ℕ). Walks es x ls m) (sym w) v
 join es i (k ∷ ks) j ls m w v = (w.0, join es k ks j ls m w.1 v)
 
@@ -85,22 +85,10 @@ in_graph es i j e =
       | inr h ↦ absurd (nothing e.0 j (subst (λ (xs : List ℕ). slice_get xs e.0 ≡ Some j) (beyond es i h) e.1))
     ]
 
--- which nodes of a graph are on a cycle, where an answer says so of each node in it
+-- which nodes of a graph are on a cycle, where an answer says of each node whether an edge stays
 pub exactly : (es : List (List ℕ)) (of first met far : List ℕ) → Falls es of → JoinsAll es of first met far
-    → (bs : List Bool) → length bs ≡ length es → ((i : ℕ) → i < length es → (IsTrue (get_or bs i false) ↔ Stays es of i))
-    → (i : ℕ) → IsTrue (get_or bs i false) ↔ IsOnCycle es i
-exactly es of first met far falls joins bs e each i = elim (less_or i (length es)) [ inl h ↦ inside h | inr h ↦ outside h ]
-  where
-    inside : i < length es → IsTrue (get_or bs i false) ↔ IsOnCycle es i
-    inside h = (λ t. stays_on es of first met far falls joins i h ((each i h).0 t), λ c. (each i h).1 (on_stays es of first met far falls joins i c))
-
-    outside : length es ≤ i → IsTrue (get_or bs i false) ↔ IsOnCycle es i
-    outside h = (
-      λ t. absurd (true≢false (sym t ∙ no_more bs i (omega (arith, h, e)))),
-      λ c. let within : i < length es = in_graph es i c.0 c.2 in absurd (omega (arith, within, h)),
-    )
-      where
-        no_more : (cs : List Bool) (k : ℕ) → length cs ≤ k → get_or cs k false ≡ false
-        no_more [] k l = refl
-        no_more (c ∷ cs) zero l = absurd (omega arith)
-        no_more (c ∷ cs) (suc k) l = no_more cs k (omega arith)
+    → (bs : List Bool) → ((i : ℕ) → IsTrue (get_or bs i false) ↔ Stays es of i) → (i : ℕ) → IsTrue (get_or bs i false) ↔ IsOnCycle es i
+exactly es of first met far falls joins bs each i = (
+  λ t. (let s = (each i).0 t in stays_on es of first met far falls joins i (in_graph es i s.0 s.1) s),
+  λ c. (each i).1 (on_stays es of first met far falls joins i c),
+)

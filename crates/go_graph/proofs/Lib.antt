@@ -1,3 +1,4 @@
 mod ListLemmas
 mod CycleLemmas
 mod StaysLemmas
+mod SearchLemmas

@@ -4,10 +4,11 @@ ghost use Rattle.std.specs.Prelude.{◌≡◌, ◌<◌, ◌↔◌, ℕ, IsTrue, 
 ghost use Rattle.go_graph.specs.Cycle.{lists, IsOnCycle};
 ghost use Rattle.go_graph.specs.Joined.{Stays, StaysFrom};
 
-use crate::component::components_of;
+use crate::component::{Components, components_of};
 use crate::joined::{are_joined, falls};
 use crate::list::at;
-use crate::reversed::ways_back;
+use crate::plain::on_cycles;
+use crate::reversed::{Ways, ways_back};
 use gj_base::NoMemory;
 use std::alloc::Global;
 
@@ -32,8 +33,8 @@ fn stays(of: &[usize], node: usize, list: &[usize]) -> bool
 }
 
 fn by_components(alloc: Global, edges: &[Vec<usize>], of: &[usize]) -> Result<Vec<bool>, NoMemory>
-    ensures count { IfOk result (λ r. length r.items ≡ length (lists edges.now)) }
-    ensures value { IfOk result (λ r. (i : ℕ) → i < length (lists edges.now) → (IsTrue (get_or r.items i false) ↔ Stays (lists edges.now) of.now i)) }
+    ensures count { IfOk result (λ r. length r.items ≡ length edges.now) }
+    ensures value { IfOk result (λ r. (i : ℕ) → IsTrue (get_or r.items i false) ↔ Stays (lists edges.now) of.now i) }
 {
     let mut lasting = Vec::new(alloc);
     for node in 0..edges.len() {
@@ -43,22 +44,36 @@ fn by_components(alloc: Global, edges: &[Vec<usize>], of: &[usize]) -> Result<Ve
     Ok(lasting)
 }
 
+// By the components where the test of them passes, or by a plain search.
+fn found(
+    alloc: Global,
+    edges: &[Vec<usize>],
+    all: &Components,
+    ways: &Ways,
+) -> Result<Vec<bool>, NoMemory>
+    ensures count { IfOk result (λ r. length r.items ≡ length edges.now) }
+    ensures exact { IfOk result (λ r. (i : ℕ) → IsTrue (get_or r.items i false) ↔ IsOnCycle (lists edges.now) i) }
+{
+    let of = all.of.as_slice();
+    if !falls(edges, of) {
+        return on_cycles(alloc, edges);
+    }
+    if !are_joined(edges, all, ways) {
+        return on_cycles(alloc, edges);
+    }
+    by_components(alloc, edges, of)
+}
+
 /// The nodes of a graph whose edges lead to its nodes.
 ///
-/// Own: what the walks found is tested first; were it not as it should be, there would be no answer.
+/// Own: what the walks found is tested first; were it not as it should be, a plain search would answer.
 pub fn lasting_in(alloc: Global, edges: &[Vec<usize>]) -> Result<Lasting, NoMemory>
+    ensures count { IfOk result (λ r. length r.is_lasting.items ≡ length edges.now) }
     ensures exact { IfOk result (λ r. (i : ℕ) → IsTrue (get_or r.is_lasting.items i false) ↔ IsOnCycle (lists edges.now) i) }
 {
     let all = components_of(alloc, edges)?;
     let ways = ways_back(alloc, edges, &all)?;
-    let of = all.of.as_slice();
-    if !falls(edges, of) {
-        return Err(NoMemory);
-    }
-    if !are_joined(edges, &all, &ways) {
-        return Err(NoMemory);
-    }
-    let is_lasting = by_components(alloc, edges, of)?;
+    let is_lasting = found(alloc, edges, &all, &ways)?;
     Ok(Lasting {
         is_lasting,
         nodes: all.nodes,

@@ -9,6 +9,7 @@ pub mod component;
 pub mod cycles;
 pub mod joined;
 mod list;
+mod plain;
 pub mod reversed;
 
 pub use cycles::{Lasting, lasting_in};

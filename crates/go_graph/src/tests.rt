@@ -1,6 +1,7 @@
 //! Graphs, by hand.
 
 use crate::cycles::lasting_in;
+use crate::plain::on_cycles;
 use std::alloc::Global;
 use std::test::Fail;
 
@@ -63,5 +64,29 @@ fn a_chain_and_no_nodes(rt: HostRuntime) -> Result<(), Fail> {
     assert!(rt; none.nodes.is_empty());
     assert!(rt; chain.is_lasting.as_slice() == [false, false, false].as_slice());
     assert!(rt; chain.nodes.as_slice() == [2, 1, 0].as_slice());
+    Ok(())
+}
+
+fn told(alloc: Global, lists: &[&[usize]]) -> Result<Vec<bool>, Fail> {
+    let graph = edges(alloc, lists)?;
+    let found = on_cycles(alloc, graph.as_slice())?;
+    Ok(found)
+}
+
+#[test]
+fn the_plain_search(rt: HostRuntime) -> Result<(), Fail> {
+    let alloc = rt.alloc();
+    let round: [&[usize]; 4] = [&[1], &[2], &[0, 3], &[]];
+    let on_round = told(alloc, round.as_slice())?;
+    let own: [&[usize]; 4] = [&[1, 1], &[1], &[3, 1], &[9]];
+    let on_own = told(alloc, own.as_slice())?;
+    let two: [&[usize]; 6] = [&[2, 1], &[0], &[3], &[4, 5], &[], &[3]];
+    let on_two = told(alloc, two.as_slice())?;
+    let none: [&[usize]; 0] = [];
+    let on_none = told(alloc, none.as_slice())?;
+    assert!(rt; on_round.as_slice() == [true, true, true, false].as_slice());
+    assert!(rt; on_own.as_slice() == [false, true, false, false].as_slice());
+    assert!(rt; on_two.as_slice() == [true, true, false, true, false, true].as_slice());
+    assert!(rt; on_none.is_empty());
     Ok(())
 }

@@ -1,8 +1,8 @@
-use Rattle.std.proofs.Common.{arith, ◌∙◌, List, Bool, ap, sym, subst, length, get_or, false}
+use Rattle.std.proofs.Common.{◌∙◌, List, Bool, ap, sym, subst, length, get_or, false}
 use Rattle.std.specs.Prelude.{IsTrue, ◌↔◌}
 use Rattle.go_graph.specs.Cycle.{lists}
 use Rattle.go_graph.specs.Joined.{Stays}
-use Rattle.go_graph.proofs.ListLemmas.{list_at, length_lists}
+use Rattle.go_graph.proofs.ListLemmas.{list_at}
 use Rattle.go_graph.proofs.StaysLemmas.{stays_is, length_more, more}
 use Rattle.go_graph.proofs.cycles.by_components.Goals as goal
 
@@ -17,11 +17,3 @@ loop-node-preserved c =
       ap length c.in_ok-push.ensures.items ∙ length_more old c.stays-is_lasting.result node c.loop-node.invariant.0,
       λ i h. subst (λ (bs : List Bool). IsTrue (get_or bs i false) ↔ Stays (lists edges) of i) (sym c.in_ok-push.ensures.items) (all i h),
     )
-
-pub returns : goal.returns
-returns c =
-    let count = length_lists c.args.edges.now in
-    record {
-      count = omega (arith, c.loop-node.invariant.0, count, c.loop-node-test.false, c.loop-node.auto.node-end);
-      value = λ i h. c.loop-node.invariant.1 i (omega (arith, h, count, c.loop-node-test.false));
-    }
