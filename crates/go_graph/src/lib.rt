@@ -2,7 +2,7 @@
 //!
 //! A walk in depth finds components, and a walk back from each component's first node the ways back.
 //! What they found is then tested, node by node and edge by edge: the answer rests on that test, and
-//! nothing is said of the walks themselves.
+//! nothing is said of the walks themselves. Where the test fails, a plain search answers.
 #![tactic(auto)]
 
 pub mod component;
