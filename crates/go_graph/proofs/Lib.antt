@@ -2,3 +2,4 @@ mod ListLemmas
 mod CycleLemmas
 mod StaysLemmas
 mod SearchLemmas
+mod RankLemmas

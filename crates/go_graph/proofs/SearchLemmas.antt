@@ -1,9 +1,9 @@
 -- A plain search from a node marks what it leads to, and nothing else.
 use Rattle.std.proofs.Common.{arith, ◌≡◌, ◌≢◌, ◌<◌, ◌+◌, ◌⊎◌, ℕ, zero, suc, refl, sym, subst, List, [], ◌∷◌, ◌++◌, Bool, true, false, true≢false, length, get_or, set, inl, inr}
 use Rattle.std.proofs.lemmas.List.{get_or-set_other}
-use Rattle.std.specs.Prelude.{IsTrue, ◌↔◌}
-use Rattle.go_graph.specs.Cycle.{Edge, Walks, IsOnCycle}
-use Rattle.go_graph.specs.Search.{IsReached, IsSource, IsNext, IsClosed, unmarked}
+use Rattle.std.specs.Prelude.{IsTrue}
+use Rattle.go_graph.specs.Cycle.{Edge, Walks}
+use Rattle.go_graph.specs.Search.{IsReached, IsSource, IsNext, IsClosed, MarksReached, unmarked}
 use Rattle.go_graph.proofs.ListLemmas.{less_or, before_next}
 use Rattle.go_graph.proofs.CycleLemmas.{join, in_graph}
 
@@ -28,7 +28,11 @@ one_less (false ∷ bs) zero e = omega arith
 one_less (true ∷ bs) (suc j) e = one_less bs j e
 one_less (false ∷ bs) (suc j) e = let rest : unmarked (set bs j true) < unmarked bs = one_less bs j e in omega (arith, rest)
 
--- nothing but what is in the graph is marked
+pub true_within : (bs : List Bool) (j : ℕ) → IsTrue (get_or bs j false) → j < length bs
+true_within [] j t = absurd (true≢false (sym t))
+true_within (b ∷ bs) zero t = omega arith
+true_within (b ∷ bs) (suc j) t = let rest : j < length bs = true_within bs j t in omega (arith, rest)
+
 marked_within : (bs : List Bool) (j : ℕ) → j < length bs → IsTrue (get_or bs j true) → IsTrue (get_or bs j false)
 marked_within [] j h t = absurd (omega (arith, h))
 marked_within (b ∷ bs) zero h t = t
@@ -52,17 +56,21 @@ module _ (es : List (List ℕ)) (start : ℕ) where
         | inr n ↦ before i (subst (λ (b : Bool). IsTrue b) (get_or-set_other bs j i true false n) t)
       ]
 
-  -- where no edge leads on, a way back to the first node has marked that one
-  back_marked : (bs : List Bool) → length bs ≡ length es → start < length es → IsClosed es bs start
-      → (ks : List ℕ) (p k : ℕ) → IsSource bs start p → Edge es p k → Walks es k ks start → IsTrue (get_or bs start false)
-  back_marked bs e h closed [] p k s f w = marked_within bs start (omega (arith, e, h)) (subst (λ (x : ℕ). IsTrue (get_or bs x true)) w (closed p k s f))
-  back_marked bs e h closed (l ∷ ls) p k s f w =
+  -- where no edge leads on, each node of the graph to which a way leads is marked
+  all_marked : (bs : List Bool) → length bs ≡ length es → IsClosed es bs start → (j : ℕ) → j < length es → (ks : List ℕ) (p k : ℕ) → IsSource bs start p → Edge es p k → Walks es k ks j → IsTrue (get_or bs j false)
+  all_marked bs e closed j h [] p k s f w = marked_within bs j (omega (arith, e, h)) (subst (λ (x : ℕ). IsTrue (get_or bs x true)) w (closed p k s f))
+  all_marked bs e closed j h (l ∷ ls) p k s f w =
       let within : k < length es = in_graph es k l w.0 in
-      back_marked bs e h closed ls k l (inr (marked_within bs k (omega (arith, e, within)) (closed p k s f))) w.0 w.1
+      all_marked bs e closed j h ls k l (inr (marked_within bs k (omega (arith, e, within)) (closed p k s f))) w.0 w.1
 
-  pub search_tells : (bs : List Bool) → length bs ≡ length es → ((i : ℕ) → IsTrue (get_or bs i false) → IsReached es start i) → IsClosed es bs start
-      → IsTrue (get_or bs start false) ↔ IsOnCycle es start
-  search_tells bs e sound closed = (λ t. sound start t, λ c. back_marked bs e (in_graph es start c.0 c.2) closed c.1 start c.0 (inl refl) c.2 c.3)
+  pub marks_reached : (bs : List Bool) → length bs ≡ length es → ((i : ℕ) → IsTrue (get_or bs i false) → IsReached es start i) → IsClosed es bs start → MarksReached es start bs
+  marks_reached bs e sound closed = (
+    e,
+    λ j. (
+      λ t. (let within : j < length bs = true_within bs j t in (sound j t, omega (arith, within, e))),
+      λ r. all_marked bs e closed j r.1 r.0.1 start r.0.0 (inl refl) r.0.2 r.0.3,
+    ),
+  )
 
 -- what holds of the edges of the nodes before one, and of that one's
 pub closed_more : (es : List (List ℕ)) (bs : List Bool) (start n : ℕ) → ((p j : ℕ) → p < n → IsSource bs start p → Edge es p j → IsTrue (get_or bs j true)) → ((j : ℕ) → IsSource bs start n → Edge es n j → IsTrue (get_or bs j true))

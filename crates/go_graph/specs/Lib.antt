@@ -1,3 +1,4 @@
 pub mod Cycle
+pub mod Order
 pub mod Joined
 pub mod Search

@@ -1,19 +1,23 @@
 //! Which nodes are on a cycle: those of which an edge leads to their own component.
 
-ghost use Rattle.std.specs.Prelude.{◌≡◌, ◌<◌, ◌↔◌, ℕ, IsTrue, IfOk, false, length, get_or};
+ghost use Rattle.std.specs.Prelude.{◌≡◌, ◌<◌, ◌↔◌, ℕ, IsTrue, IfOk, IsPermutation, false, length, get_or};
+ghost use Rattle.std.specs.List.{range_with_len};
 ghost use Rattle.go_graph.specs.Cycle.{lists, IsOnCycle};
+ghost use Rattle.go_graph.specs.Order.{IsOrdered};
 ghost use Rattle.go_graph.specs.Joined.{Stays, StaysFrom};
+ghost use Rattle.go_graph.specs.Search.{Descends};
 
 use crate::component::{Components, components_of};
 use crate::joined::{are_joined, falls};
 use crate::list::at;
-use crate::plain::on_cycles;
+use crate::plain::ranked_by_search;
+use crate::ranked::{Ranked, in_order};
 use crate::reversed::{Ways, ways_back};
 use gj_base::NoMemory;
 use std::alloc::Global;
 
-/// Which nodes are on a cycle; and the nodes in an order in which each that isn't comes after all to
-/// which it leads.
+/// Which nodes are on a cycle; and each node once, in an order in which each that isn't on one comes
+/// after all to which it leads.
 #[derive(Drop)]
 pub struct Lasting {
     pub is_lasting: Vec<bool>,
@@ -45,23 +49,28 @@ fn by_components(alloc: Global, edges: &[Vec<usize>], of: &[usize]) -> Result<Ve
 }
 
 // By the components where the test of them passes, or by a plain search.
-fn found(
+fn ranked(
     alloc: Global,
     edges: &[Vec<usize>],
     all: &Components,
     ways: &Ways,
-) -> Result<Vec<bool>, NoMemory>
-    ensures count { IfOk result (λ r. length r.items ≡ length edges.now) }
-    ensures exact { IfOk result (λ r. (i : ℕ) → IsTrue (get_or r.items i false) ↔ IsOnCycle (lists edges.now) i) }
+) -> Result<Ranked, NoMemory>
+    ensures count { IfOk result (λ r. length r.is_lasting.items ≡ length edges.now) }
+    ensures exact { IfOk result (λ r. (i : ℕ) → IsTrue (get_or r.is_lasting.items i false) ↔ IsOnCycle (lists edges.now) i) }
+    ensures falls { IfOk result (λ r. Descends (lists edges.now) r.is_lasting.items r.numbers.items) }
 {
     let of = all.of.as_slice();
     if !falls(edges, of) {
-        return on_cycles(alloc, edges);
+        return ranked_by_search(alloc, edges);
     }
     if !are_joined(edges, all, ways) {
-        return on_cycles(alloc, edges);
+        return ranked_by_search(alloc, edges);
     }
-    by_components(alloc, edges, of)
+    let is_lasting = by_components(alloc, edges, of)?;
+    Ok(Ranked {
+        is_lasting,
+        numbers: Vec::from_slice(alloc, of)?,
+    })
 }
 
 /// The nodes of a graph whose edges lead to its nodes.
@@ -70,12 +79,15 @@ fn found(
 pub fn lasting_in(alloc: Global, edges: &[Vec<usize>]) -> Result<Lasting, NoMemory>
     ensures count { IfOk result (λ r. length r.is_lasting.items ≡ length edges.now) }
     ensures exact { IfOk result (λ r. (i : ℕ) → IsTrue (get_or r.is_lasting.items i false) ↔ IsOnCycle (lists edges.now) i) }
+    ensures each { IfOk result (λ r. IsPermutation (range_with_len 0 (length edges.now)) r.nodes.items) }
+    ensures order { IfOk result (λ r. IsOrdered (lists edges.now) r.nodes.items) }
 {
     let all = components_of(alloc, edges)?;
     let ways = ways_back(alloc, edges, &all)?;
-    let is_lasting = found(alloc, edges, &all, &ways)?;
+    let found = ranked(alloc, edges, &all, &ways)?;
+    let nodes = in_order(alloc, edges.len(), found.numbers.as_slice())?;
     Ok(Lasting {
-        is_lasting,
-        nodes: all.nodes,
+        is_lasting: found.is_lasting,
+        nodes,
     })
 }

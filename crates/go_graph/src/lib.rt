@@ -10,6 +10,7 @@ pub mod cycles;
 pub mod joined;
 mod list;
 mod plain;
+mod ranked;
 pub mod reversed;
 
 pub use cycles::{Lasting, lasting_in};

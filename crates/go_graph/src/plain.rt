@@ -2,8 +2,9 @@
 
 ghost use Rattle.std.specs.Prelude.{◌≡◌, ◌↔◌, ℕ, Some, None, IsTrue, IfOk, IfSome, true, false, get_or, slice_get, length};
 ghost use Rattle.go_graph.specs.Cycle.{lists, IsOnCycle};
-ghost use Rattle.go_graph.specs.Search.{IsClosed, IsNext, IsSource};
+ghost use Rattle.go_graph.specs.Search.{Descends, IsClosed, IsNext, IsSource, MarksReached, marked, rank};
 
+use crate::ranked::Ranked;
 use gj_base::NoMemory;
 use std::alloc::Global;
 
@@ -54,26 +55,58 @@ fn next_of(edges: &[Vec<usize>], marks: &[bool], start: usize) -> Option<usize>
     None
 }
 
-// Whether a node is on a cycle: what it leads to is marked, one node after another.
-fn is_on_cycle(alloc: Global, edges: &[Vec<usize>], start: usize) -> Result<bool, NoMemory>
-    ensures value { IfOk result (λ r. IsTrue r ↔ IsOnCycle (lists edges.now) start) }
+// What a node leads to is marked, one node after another.
+fn marks_from(alloc: Global, edges: &[Vec<usize>], start: usize) -> Result<Vec<bool>, NoMemory>
+    ensures value { IfOk result (λ r. MarksReached (lists edges.now) start r.items) }
 {
     let mut marks = vec![in alloc; false; edges.len()]?;
     while let Some(node) = next_of(edges, marks.as_slice(), start) {
         marks[node] = true;
     }
-    Ok(mark_at(marks.as_slice(), start, false))
+    Ok(marks)
 }
 
-/// Which nodes are on a cycle.
-pub fn on_cycles(alloc: Global, edges: &[Vec<usize>]) -> Result<Vec<bool>, NoMemory>
-    ensures count { IfOk result (λ r. length r.items ≡ length edges.now) }
-    ensures exact { IfOk result (λ r. (i : ℕ) → IsTrue (get_or r.items i false) ↔ IsOnCycle (lists edges.now) i) }
+fn count_of(marks: &[bool]) -> usize
+    ensures value { result ≡ marked marks.now }
 {
-    let mut found = Vec::new(alloc);
-    for node in 0..edges.len() {
-        let is_found = is_on_cycle(alloc, edges, node)?;
-        found.push(is_found)?;
+    let mut count = 0;
+    for mark in marks {
+        if *mark {
+            count += 1;
+        }
     }
-    Ok(found)
+    count
+}
+
+// How many nodes a node leads to, and one more where it isn't among them.
+fn rank_of(marks: &[bool], node: usize) -> usize
+    ensures value { result ≡ rank marks.now node }
+{
+    let count = count_of(marks);
+    if mark_at(marks, node, false) {
+        return count;
+    }
+    count + 1
+}
+
+/// Which nodes are on a cycle; the number of a node is how many nodes it leads to, and one more where
+/// it is on none.
+pub fn ranked_by_search(alloc: Global, edges: &[Vec<usize>]) -> Result<Ranked, NoMemory>
+    ensures count { IfOk result (λ r. length r.is_lasting.items ≡ length edges.now) }
+    ensures exact { IfOk result (λ r. (i : ℕ) → IsTrue (get_or r.is_lasting.items i false) ↔ IsOnCycle (lists edges.now) i) }
+    ensures falls { IfOk result (λ r. Descends (lists edges.now) r.is_lasting.items r.numbers.items) }
+{
+    let mut is_lasting = Vec::new(alloc);
+    let mut numbers = Vec::new(alloc);
+    for node in 0..edges.len() {
+        let marks = marks_from(alloc, edges, node)?;
+        let is_found = mark_at(marks.as_slice(), node, false);
+        let number = rank_of(marks.as_slice(), node);
+        is_lasting.push(is_found)?;
+        numbers.push(number)?;
+    }
+    Ok(Ranked {
+        is_lasting,
+        numbers,
+    })
 }

@@ -1,7 +1,7 @@
 //! Graphs, by hand.
 
 use crate::cycles::lasting_in;
-use crate::plain::on_cycles;
+use crate::plain::ranked_by_search;
 use std::alloc::Global;
 use std::test::Fail;
 
@@ -69,8 +69,8 @@ fn a_chain_and_no_nodes(rt: HostRuntime) -> Result<(), Fail> {
 
 fn told(alloc: Global, lists: &[&[usize]]) -> Result<Vec<bool>, Fail> {
     let graph = edges(alloc, lists)?;
-    let found = on_cycles(alloc, graph.as_slice())?;
-    Ok(found)
+    let found = ranked_by_search(alloc, graph.as_slice())?;
+    Ok(found.is_lasting)
 }
 
 #[test]

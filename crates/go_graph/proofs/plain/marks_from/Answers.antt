@@ -1,10 +1,9 @@
-use Rattle.std.proofs.Common.{◌≡◌, ◌∙◌, List, Bool, true, false, sym, subst, refl, ap, get_or, length-set}
-use Rattle.std.specs.Prelude.{IsTrue, ◌↔◌}
-use Rattle.go_graph.specs.Cycle.{lists, IsOnCycle}
+use Rattle.std.proofs.Common.{◌≡◌, ◌∙◌, List, Bool, true, false, sym, subst, refl, get_or, length-set}
+use Rattle.go_graph.specs.Cycle.{lists}
 use Rattle.go_graph.specs.Search.{IsNext, IsClosed}
 use Rattle.go_graph.proofs.ListLemmas.{length_lists}
-use Rattle.go_graph.proofs.SearchLemmas.{one_less, all_reached, search_tells}
-use Rattle.go_graph.proofs.plain.is_on_cycle.Goals as goal
+use Rattle.go_graph.proofs.SearchLemmas.{one_less, all_reached, marks_reached}
+use Rattle.go_graph.proofs.plain.marks_from.Goals as goal
 
 pub loop-node-smaller : goal.loop-node-smaller
 loop-node-smaller c = one_less c.loop-node.marks.items c.in-Some.node (subst (λ (bs : List Bool). get_or bs c.in-Some.node true ≡ false) c.as_slice.ensures.value c.in-Some.ensures.open)
@@ -24,7 +23,6 @@ returns c =
     let marks = c.loop-node.marks.items in
     let count = c.loop-node.invariant.count ∙ sym (length_lists c.args.edges.now) in
     let closed : IsClosed es marks c.args.start = subst (λ (bs : List Bool). IsClosed es bs c.args.start) c.as_slice.ensures.value (c.in_default.ensures.none refl) in
-    let told = search_tells es c.args.start marks count c.loop-node.invariant.reached closed in
     record {
-      value = subst (λ (b : Bool). IsTrue b ↔ IsOnCycle es c.args.start) (sym (c.mark_at.ensures.value ∙ ap (λ (bs : List Bool). get_or bs c.args.start false) c.as_slice-2.ensures.value)) told;
+      value = marks_reached es c.args.start marks count c.loop-node.invariant.reached closed;
     }

@@ -2,7 +2,7 @@ use Rattle.std.proofs.Common.{◌≡◌, ℕ, length, get_or, false}
 use Rattle.std.specs.Prelude.{IsTrue}
 use Rattle.go_graph.specs.Cycle.{lists}
 use Rattle.go_graph.specs.Search.{IsReached, unmarked}
-use Rattle.go_graph.proofs.plain.is_on_cycle.Given as goal
+use Rattle.go_graph.proofs.plain.marks_from.Given as goal
 
 abbrev pub invariant-loop-node : goal.invariant-loop-node
 invariant-loop-node l = record {
