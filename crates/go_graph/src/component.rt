@@ -13,8 +13,6 @@ use std::alloc::Global;
 pub struct Components {
     /// The number of each node's component, from 1 on.
     pub of: Vec<usize>,
-    /// The nodes, component by component.
-    pub nodes: Vec<usize>,
     /// When each node was met, from 1 on.
     pub met: Vec<usize>,
     /// By which node it was met, and by which of that node's edges.
@@ -49,7 +47,6 @@ fn zeros(alloc: Global, n: usize) -> Result<Vec<usize>, NoMemory> {
 fn start(alloc: Global, n: usize) -> Result<State, NoMemory> {
     let all = Components {
         of: zeros(alloc, n)?,
-        nodes: Vec::new(alloc),
         met: zeros(alloc, n)?,
         parent: zeros(alloc, n)?,
         edge: zeros(alloc, n)?,
@@ -88,7 +85,6 @@ fn close(all: &mut Components, open: &mut Vec<usize>, node: usize) -> Result<(),
     all.first.push(node)?;
     while let Some(other) = open.pop() {
         set(&mut all.of, other, number);
-        all.nodes.push(other)?;
         if other == node {
             return Ok(());
         }

@@ -1,4 +1,4 @@
-//! Which nodes of a graph are on a cycle, and an order of the others, in time by the graph.
+//! Which nodes of a graph are on a cycle, and an order of the others, in time by the graph and a sort.
 //!
 //! A walk in depth finds components, and a walk back from each component's first node the ways back.
 //! What they found is then tested, node by node and edge by edge: the answer rests on that test, and

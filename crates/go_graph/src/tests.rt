@@ -2,6 +2,7 @@
 
 use crate::cycles::lasting_in;
 use crate::plain::ranked_by_search;
+use crate::ranked::Ranked;
 use std::alloc::Global;
 use std::test::Fail;
 
@@ -67,26 +68,29 @@ fn a_chain_and_no_nodes(rt: HostRuntime) -> Result<(), Fail> {
     Ok(())
 }
 
-fn told(alloc: Global, lists: &[&[usize]]) -> Result<Vec<bool>, Fail> {
+fn searched(alloc: Global, lists: &[&[usize]]) -> Result<Ranked, Fail> {
     let graph = edges(alloc, lists)?;
     let found = ranked_by_search(alloc, graph.as_slice())?;
-    Ok(found.is_lasting)
+    Ok(found)
 }
 
 #[test]
 fn the_plain_search(rt: HostRuntime) -> Result<(), Fail> {
     let alloc = rt.alloc();
     let round: [&[usize]; 4] = [&[1], &[2], &[0, 3], &[]];
-    let on_round = told(alloc, round.as_slice())?;
+    let on_round = searched(alloc, round.as_slice())?;
     let own: [&[usize]; 4] = [&[1, 1], &[1], &[3, 1], &[9]];
-    let on_own = told(alloc, own.as_slice())?;
+    let on_own = searched(alloc, own.as_slice())?;
     let two: [&[usize]; 6] = [&[2, 1], &[0], &[3], &[4, 5], &[], &[3]];
-    let on_two = told(alloc, two.as_slice())?;
+    let on_two = searched(alloc, two.as_slice())?;
     let none: [&[usize]; 0] = [];
-    let on_none = told(alloc, none.as_slice())?;
-    assert!(rt; on_round.as_slice() == [true, true, true, false].as_slice());
-    assert!(rt; on_own.as_slice() == [false, true, false, false].as_slice());
-    assert!(rt; on_two.as_slice() == [true, true, false, true, false, true].as_slice());
-    assert!(rt; on_none.is_empty());
+    let on_none = searched(alloc, none.as_slice())?;
+    assert!(rt; on_round.is_lasting.as_slice() == [true, true, true, false].as_slice());
+    assert!(rt; on_round.numbers.as_slice() == [4, 4, 4, 1].as_slice());
+    assert!(rt; on_own.is_lasting.as_slice() == [false, true, false, false].as_slice());
+    assert!(rt; on_own.numbers.as_slice() == [2, 1, 3, 1].as_slice());
+    assert!(rt; on_two.is_lasting.as_slice() == [true, true, false, true, false, true].as_slice());
+    assert!(rt; on_two.numbers.as_slice() == [6, 6, 4, 3, 1, 3].as_slice());
+    assert!(rt; on_none.is_lasting.is_empty() && on_none.numbers.is_empty());
     Ok(())
 }
