@@ -8,10 +8,14 @@ use Rattle.std.specs.Prelude.{IsTrue, ◌↔◌}
 use Rattle.go_graph.specs.Cycle.{Edge, IsOnCycle}
 use Rattle.go_graph.specs.Joined.{number, Falls, Stays}
 use Rattle.go_graph.specs.Order.{IsOrdered}
-use Rattle.go_graph.specs.Search.{IsReached, MarksReached, IsRank, Descends, marked, rank}
+use Rattle.go_graph.specs.Search.{IsReached, MarksReached, Descends, marked, rank}
 use Rattle.go_graph.proofs.ListLemmas.{less_or, get_within}
 use Rattle.go_graph.proofs.CycleLemmas.{in_graph}
 use Rattle.go_graph.proofs.SearchLemmas.{true_within}
+
+-- the number of a node, by what a search from it marks
+abbrev pub IsRank : List (List ℕ) → (i n : ℕ) → Type 0
+IsRank es i n = (marks : List Bool) × MarksReached es i marks × (n ≡ rank marks i)
 
 not_true : (b : Bool) → (IsTrue b → ⊥) → b ≡ false
 not_true false h = refl

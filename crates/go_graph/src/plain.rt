@@ -1,8 +1,8 @@
 //! Which nodes are on a cycle, by a plain search from each node: slow, and resting on no walk.
 
-ghost use Rattle.std.specs.Prelude.{◌≡◌, ◌↔◌, ℕ, Some, None, IsTrue, IfOk, IfSome, true, false, get_or, slice_get, length};
+ghost use Rattle.std.specs.Prelude.{◌≡◌, ◌↔◌, ℕ, [], IsTrue, IfOk, OnOk, true, false, get_or, length};
 ghost use Rattle.go_graph.specs.Cycle.{lists, IsOnCycle};
-ghost use Rattle.go_graph.specs.Search.{Descends, IsClosed, IsNext, IsSource, MarksReached, marked, rank};
+ghost use Rattle.go_graph.specs.Search.{Descends, MarksReached, marked, rank, visit_all};
 
 use crate::ranked::Ranked;
 use gj_base::NoMemory;
@@ -18,50 +18,46 @@ fn mark_at(marks: &[bool], node: usize, beyond: bool) -> bool
     beyond
 }
 
-// One of these nodes that is in the graph and isn't marked.
-fn unmarked_of(marks: &[bool], list: &[usize]) -> Option<usize>
-    ensures some { IfSome result (λ j. (k : ℕ) × (slice_get list.now k ≡ Some j)) }
-    ensures open { IfSome result (λ j. get_or marks.now j true ≡ false) }
-    ensures none { result ≡ None → (k j : ℕ) → slice_get list.now k ≡ Some j → IsTrue (get_or marks.now j true) }
+// Marks those of these nodes that are in the graph and aren't marked, and puts them at the queue's end.
+fn visit_each(marks: &mut Vec<bool>, queue: &mut Vec<usize>, list: &[usize]) -> Result<(), NoMemory>
+    ensures ok { OnOk result (visit_all list.now marks.old.items queue.old.items ≡ (marks.new.items, queue.new.items)) }
 {
     for target in list {
-        if !mark_at(marks, *target, true) {
-            return Some(*target);
+        if !mark_at(marks.as_slice(), *target, true) {
+            marks[*target] = true;
+            queue.push(*target)?;
         }
     }
-    None
+    Ok(())
 }
 
-// Whether the search goes on from a node: the one that it began at, or a marked one.
-fn is_source(marks: &[bool], start: usize, node: usize) -> bool
-    ensures value { IsTrue result ↔ IsSource marks.now start node }
+// The same of the nodes to which a node leads.
+fn visit(
+    edges: &[Vec<usize>],
+    node: usize,
+    marks: &mut Vec<bool>,
+    queue: &mut Vec<usize>,
+) -> Result<(), NoMemory>
+    ensures ok { OnOk result (visit_all (get_or (lists edges.now) node []) marks.old.items queue.old.items ≡ (marks.new.items, queue.new.items)) }
 {
-    node == start || mark_at(marks, node, false)
-}
-
-// A node that isn't marked, to which an edge leads from where the search goes on.
-fn next_of(edges: &[Vec<usize>], marks: &[bool], start: usize) -> Option<usize>
-    ensures some { IfSome result (λ j. IsNext (lists edges.now) marks.now start j) }
-    ensures open { IfSome result (λ j. get_or marks.now j true ≡ false) }
-    ensures none { result ≡ None → IsClosed (lists edges.now) marks.now start }
-{
-    for node in 0..edges.len() {
-        if is_source(marks, start, node) {
-            if let Some(target) = unmarked_of(marks, edges[node].as_slice()) {
-                return Some(target);
-            }
-        }
+    if node < edges.len() {
+        return visit_each(marks, queue, edges[node].as_slice());
     }
-    None
+    Ok(())
 }
 
-// What a node leads to is marked, one node after another.
+// What a node leads to is marked, from one node of the queue after another.
 fn marks_from(alloc: Global, edges: &[Vec<usize>], start: usize) -> Result<Vec<bool>, NoMemory>
     ensures value { IfOk result (λ r. MarksReached (lists edges.now) start r.items) }
 {
     let mut marks = vec![in alloc; false; edges.len()]?;
-    while let Some(node) = next_of(edges, marks.as_slice(), start) {
-        marks[node] = true;
+    let mut queue = Vec::new(alloc);
+    queue.push(start)?;
+    let mut next = 0;
+    while next < queue.len() {
+        let node = queue[next];
+        visit(edges, node, &mut marks, &mut queue)?;
+        next += 1;
     }
     Ok(marks)
 }

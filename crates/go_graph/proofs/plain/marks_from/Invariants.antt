@@ -1,14 +1,14 @@
-use Rattle.std.proofs.Common.{◌≡◌, ℕ, length, get_or, false}
-use Rattle.std.specs.Prelude.{IsTrue}
+use Rattle.std.proofs.Common.{◌≤◌, ◌+◌, ◌-◌, length}
 use Rattle.go_graph.specs.Cycle.{lists}
-use Rattle.go_graph.specs.Search.{IsReached, unmarked}
+use Rattle.go_graph.proofs.SearchLemmas.{Searches, IsClosedBelow}
 use Rattle.go_graph.proofs.plain.marks_from.Given as goal
 
-abbrev pub invariant-loop-node : goal.invariant-loop-node
-invariant-loop-node l = record {
-  count : length l.marks.items ≡ length l.edges;
-  reached : (j : ℕ) → IsTrue (get_or l.marks.items j false) → IsReached (lists l.edges) l.start j;
+abbrev pub invariant-loop-next : goal.invariant-loop-next
+invariant-loop-next l = record {
+  searches : Searches (lists l.edges) l.start l.marks.items l.queue.items;
+  closed : IsClosedBelow (lists l.edges) l.marks.items l.queue.items l.next;
+  within : l.next ≤ length l.queue.items;
 }
 
-abbrev pub decreases-loop-node : goal.decreases-loop-node
-decreases-loop-node l = unmarked l.marks.items
+abbrev pub decreases-loop-next : goal.decreases-loop-next
+decreases-loop-next l = length l.edges + 1 - l.next

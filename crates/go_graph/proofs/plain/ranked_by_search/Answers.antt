@@ -1,11 +1,11 @@
 use Rattle.std.proofs.Common.{arith, ◌≡◌, ◌∙◌, ℕ, List, Bool, ap, sym, subst, length, get_or, false}
 use Rattle.std.specs.Prelude.{IsTrue, ◌↔◌}
 use Rattle.go_graph.specs.Cycle.{lists, IsOnCycle}
-use Rattle.go_graph.specs.Search.{MarksReached, IsRank, rank}
+use Rattle.go_graph.specs.Search.{MarksReached, rank}
 use Rattle.go_graph.proofs.ListLemmas.{length_lists}
 use Rattle.go_graph.proofs.CycleLemmas.{in_graph}
 use Rattle.go_graph.proofs.StaysLemmas.{length_more, more, more_numbers}
-use Rattle.go_graph.proofs.RankLemmas.{told_here, everywhere, descends_by_ranks}
+use Rattle.go_graph.proofs.RankLemmas.{IsRank, told_here, everywhere, descends_by_ranks}
 use Rattle.go_graph.proofs.plain.ranked_by_search.Goals as goal
 
 pub loop-node-preserved : goal.loop-node-preserved

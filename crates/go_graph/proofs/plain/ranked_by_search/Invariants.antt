@@ -1,7 +1,7 @@
 use Rattle.std.proofs.Common.{◌≡◌, ◌<◌, ℕ, length, get_or, false}
 use Rattle.std.specs.Prelude.{IsTrue, ◌↔◌}
 use Rattle.go_graph.specs.Cycle.{lists, IsOnCycle}
-use Rattle.go_graph.specs.Search.{IsRank}
+use Rattle.go_graph.proofs.RankLemmas.{IsRank}
 use Rattle.go_graph.proofs.plain.ranked_by_search.Given as goal
 
 abbrev pub invariant-loop-node : goal.invariant-loop-node
