@@ -41,7 +41,7 @@ fn main_in(alloc: Global, decls: &[Decl]) -> Result<Option<Main>, NoMemory>
 fn main_of(alloc: Global, decl: &Decl) -> Result<Option<Main>, NoMemory>
     ensures { IfOk result (λ found. option_map main_view found ≡ p.main_of (decl_view decl.now)) }
 {
-    match &decl.form {
+    match &*decl.form {
         DeclForm::Func(None, name, sig, block) => {
             if name.text.as_bytes() == b"main".as_slice() && is_bare(sig) {
                 return main_printing(alloc, decl.place, block.stmts.as_slice());
@@ -108,7 +108,7 @@ fn texts_of(alloc: Global, stmts: &[Stmt]) -> Result<Option<Vec<Text>>, NoMemory
 fn is_empty(stmt: &Stmt) -> bool
     ensures { result ≡ p.is_empty (stmt_view stmt.now) }
 {
-    match &stmt.form {
+    match &*stmt.form {
         StmtForm::Empty => true,
         _ => false,
     }
@@ -118,7 +118,7 @@ fn is_empty(stmt: &Stmt) -> bool
 fn printed_text(stmt: &Stmt) -> Option<&[u8]>
     ensures { option_map (λ text. text.now) result ≡ p.printed_text (stmt_view stmt.now) }
 {
-    match &stmt.form {
+    match &*stmt.form {
         StmtForm::Expr(exprs) => call_in(exprs.as_slice()),
         _ => None,
     }
@@ -139,7 +139,7 @@ fn call_in(exprs: &[Expr]) -> Option<&[u8]>
 fn call_text(call: &Expr) -> Option<&[u8]>
     ensures { option_map (λ text. text.now) result ≡ p.call_text (expr_view call.now) }
 {
-    match &call.form {
+    match &*call.form {
         ExprForm::Call(callee, args, spread) => {
             if !*spread && is_println(callee) {
                 return argument_text(args.as_slice());
@@ -153,7 +153,7 @@ fn call_text(call: &Expr) -> Option<&[u8]>
 fn is_println(callee: &Expr) -> bool
     ensures { result ≡ p.is_println (expr_view callee.now) }
 {
-    match &callee.form {
+    match &*callee.form {
         ExprForm::Name(name) => name.as_bytes() == b"println".as_slice(),
         _ => false,
     }
@@ -174,7 +174,7 @@ fn argument_text(args: &[Expr]) -> Option<&[u8]>
 fn literal_text(e: &Expr) -> Option<&[u8]>
     ensures { option_map (λ text. text.now) result ≡ p.literal_text (expr_view e.now) }
 {
-    match &e.form {
+    match &*e.form {
         ExprForm::Str(text) => Some(text.as_bytes()),
         _ => None,
     }

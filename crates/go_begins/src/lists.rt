@@ -8,10 +8,8 @@ ghost use Rattle.go_frames.specs.FrameView.{exprs_in, stmts_in, expr_perhaps, st
 
 use gj_base::{NoMemory, Place};
 use go_ends::list::{and_clause, and_comm, and_expr, and_stmt, and_type_spec, and_value_spec};
-use go_ends::stmt::{lost_comms, lost_types, lost_values};
 use go_frames::form::{clause, comm, type_spec, value_spec};
 use go_syntax::tree::{Clause, Comm, Expr, Name, Stmt, TypeSpec, ValueSpec};
-use std::alloc::Global;
 
 /// Expressions.
 #[tactic(auto, using(std::proofs::lemmas::List::map_push))]
@@ -46,7 +44,6 @@ pub fn with_clause(
 /// A clause of a `select`.
 #[tactic(auto, using(crate::proofs::ListLemmas::more_views))]
 pub fn with_comm(
-    alloc: Global,
     list: Vec<Comm>,
     place: Place,
     said: Option<Stmt>,
@@ -54,16 +51,13 @@ pub fn with_comm(
 ) -> Result<Vec<Comm>, NoMemory>
     ensures value { IfOk result (λ all. map comm_view all.items ≡ nodes.and (map comm_view list.items) (λ rest. t.MoreComms place (stmt_perhaps said) (stmts_of (stmts_in body.items)) rest)) }
 {
-    match comm(alloc, place, said, body) {
-        Ok(item) => and_comm(list, item),
-        Err(error) => lost_comms(error, list),
-    }
+    let item = comm(place, said, body);
+    and_comm(list, item)
 }
 
 /// A Spec of constants or variables.
 #[tactic(auto, using(crate::proofs::ListLemmas::more_views))]
 pub fn with_values(
-    alloc: Global,
     list: Vec<ValueSpec>,
     names: Vec<Name>,
     ty: Option<Expr>,
@@ -71,16 +65,13 @@ pub fn with_values(
 ) -> Result<Vec<ValueSpec>, NoMemory>
     ensures value { IfOk result (λ all. map value_spec_view all.items ≡ nodes.and (map value_spec_view list.items) (λ rest. t.MoreValues names.items (expr_perhaps ty) (exprs_of (exprs_in values.items)) rest)) }
 {
-    match value_spec(alloc, names, ty, values) {
-        Ok(item) => and_value_spec(list, item),
-        Err(error) => lost_values(error, list),
-    }
+    let item = value_spec(names, ty, values);
+    and_value_spec(list, item)
 }
 
 /// A Spec of a type.
 #[tactic(auto, using(crate::proofs::ListLemmas::more_views))]
 pub fn with_type(
-    alloc: Global,
     list: Vec<TypeSpec>,
     name: Name,
     alias: bool,
@@ -88,8 +79,6 @@ pub fn with_type(
 ) -> Result<Vec<TypeSpec>, NoMemory>
     ensures value { IfOk result (λ all. map type_spec_view all.items ≡ nodes.and (map type_spec_view list.items) (λ rest. t.MoreTypes name alias (expr_view ty) rest)) }
 {
-    match type_spec(alloc, name, alias, ty) {
-        Ok(item) => and_type_spec(list, item),
-        Err(error) => lost_types(error, list),
-    }
+    let item = type_spec(name, alias, ty);
+    and_type_spec(list, item)
 }

@@ -1,6 +1,7 @@
 //! Statements: Block, List and Stmt, but for Simple and those with a header.
 
 ghost use Rattle.std.specs.Prelude.{◌∷◌, []};
+ghost use Rattle.go_syntax.specs.Tree as t;
 ghost use Rattle.go_grammar.specs.Frames as f;
 ghost use Rattle.go_grammar.specs.ExprSteps as steps;
 ghost use Rattle.go_grammar.specs.StmtSteps as rows;
@@ -10,6 +11,7 @@ use crate::control::{begin_for, begin_if};
 use crate::decl::begin_decl;
 use crate::expr::then_expr;
 use crate::simple::begin_simple;
+use go_ends::lost::lost;
 use go_frames::at::At;
 use go_frames::ctx::Ctx;
 use go_frames::form::{defer, fall_through, go};
@@ -58,12 +60,22 @@ fn begin_with_word(
         Keyword::Return => goes(stack, Frame::Stmt(StmtFrame::Return(blocks, at.place))),
         Keyword::Break => goes(stack, Frame::Stmt(StmtFrame::Break(at.place))),
         Keyword::Continue => goes(stack, Frame::Stmt(StmtFrame::Continue(at.place))),
-        Keyword::Fallthrough => done(stack, Value::Stmt(fall_through(at.place))),
+        Keyword::Fallthrough => fall(alloc, at, stack),
         Keyword::If => begin_if(at, blocks, stack),
         Keyword::For => begin_for(at, blocks, stack),
         Keyword::Switch => goes(stack, Frame::Switch(SwitchFrame::Head(blocks, at.place))),
         Keyword::Select => goes(stack, Frame::Switch(SwitchFrame::Select(blocks, at.place))),
         _ => begin_simple(alloc, at, text, Ctx::new(blocks), Mode::Header, stack),
+    }
+}
+
+/// `fallthrough`
+fn fall(alloc: Global, at: At, stack: Stack) -> Answer
+    ensures value { Comes result (f.Goes (f.Done (f.AStmt (t.FallthroughStmt at.place)) ∷ stack_view stack)) }
+{
+    match fall_through(alloc, at.place) {
+        Ok(s) => done(stack, Value::Stmt(s)),
+        Err(error) => lost(error, stack),
     }
 }
 

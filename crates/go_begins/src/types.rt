@@ -44,8 +44,12 @@ pub fn begin_type(alloc: Global, at: At, text: &[u8], c: Ctx, stack: Stack) -> A
 fn begin_named(alloc: Global, at: At, text: &[u8], stack: Stack) -> Answer
     ensures value { Comes result (f.Goes (f.OfType (f.TypeName (nodes.name_expr (name_of (token_of at text.now)))) ∷ stack_view stack)) }
 {
-    match name(alloc, at.place, text) {
-        Ok(name) => goes(stack, Frame::Type(TypeFrame::Name(name_expr(name)))),
+    let name = match name(alloc, at.place, text) {
+        Ok(name) => name,
+        Err(error) => return lost(error, stack),
+    };
+    match name_expr(alloc, name) {
+        Ok(e) => goes(stack, Frame::Type(TypeFrame::Name(e))),
         Err(error) => lost(error, stack),
     }
 }

@@ -4,6 +4,7 @@ ghost use Rattle.std.specs.Prelude.{◌≡◌, ◌∷◌, []};
 ghost use Rattle.go_syntax.specs.Tree as t;
 ghost use Rattle.go_grammar.specs.Frames as f;
 ghost use Rattle.go_grammar.specs.ExprSteps as steps;
+ghost use Rattle.go_grammar.specs.Nodes as nodes;
 ghost use Rattle.go_grammar.specs.StmtSteps as rows;
 ghost use Rattle.go_syntax.specs.View.{expr_view, exprs_of, block_view, stmt_view};
 ghost use Rattle.go_frames.specs.FrameView.{Comes, token_of, exprs_in, expr_perhaps, stmt_perhaps, if_part, for_part, control_frame, stack_view};
@@ -11,7 +12,7 @@ ghost use Rattle.go_frames.specs.FrameView.{Comes, token_of, exprs_in, expr_perh
 use go_begins::control::new_if;
 use go_begins::expr::{begin_expr, then_expr};
 use go_begins::simple::begin_simple;
-use go_ends::lost::lost;
+use go_ends::lost::{lost, lost_at};
 use go_ends::refused::{long_at, stuck, stuck_at, stuck_with};
 use go_frames::at::At;
 use go_frames::ctx::{Ctx, LONGEST, one_more};
@@ -354,14 +355,7 @@ pub fn control_meets_block(
 {
     match frame {
         ControlFrame::Then(part, e) => after_then(alloc, at, part, e, block, stack),
-        ControlFrame::Other(part, e, first) => over_if(
-            alloc,
-            part,
-            e,
-            first,
-            Some(block_stmt(block)),
-            stack,
-        ),
+        ControlFrame::Other(part, e, first) => over_else(alloc, part, e, first, block, stack),
         ControlFrame::ForBody(part, init, e, post) => over_for(
             alloc, part, init, e, post, block, stack,
         ),
@@ -369,6 +363,27 @@ pub fn control_meets_block(
             alloc, part, left, fresh, e, block, stack,
         ),
         other => stuck_with(Frame::Control(other), Value::Block(block), stack),
+    }
+}
+
+/// An `if` whose `else` has the block.
+fn over_else(
+    alloc: Global,
+    part: IfPart,
+    e: Expr,
+    first: Block,
+    block: Block,
+    stack: Stack,
+) -> Answer
+    ensures value { Comes result (f.Over (f.AStmt (rows.if_of (if_part part) (expr_view e) (block_view first) (t.AStmt (nodes.block_stmt (block_view block))))) (stack_view stack)) }
+{
+    match block_stmt(alloc, block) {
+        Ok(s) => over_if(alloc, part, e, first, Some(s), stack),
+        Err(error) => lost_at(
+            error,
+            Frame::Control(ControlFrame::Other(part, e, first)),
+            stack,
+        ),
     }
 }
 

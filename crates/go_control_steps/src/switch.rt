@@ -59,7 +59,7 @@ pub fn switch_row(alloc: Global, at: At, text: &[u8], frame: SwitchFrame, stack:
             alloc, at, text, part, place, es, stmts, stack,
         ),
         SwitchFrame::Select(blocks, place) => open_select(alloc, at, blocks, place, stack),
-        SwitchFrame::Comms(part) => comms(at, part, stack),
+        SwitchFrame::Comms(part) => comms(alloc, at, part, stack),
         SwitchFrame::Comm(part, place) => comm_case(alloc, at, text, part, place, stack),
         SwitchFrame::CommDefault(part, place) => {
             at_colon(
@@ -307,7 +307,7 @@ fn open_select(alloc: Global, at: At, blocks: u32, place: Place, stack: Stack) -
 }
 
 /// {("case" Simple | "default") ":" List} "}"
-fn comms(at: At, part: SelectPart, stack: Stack) -> Answer
+fn comms(alloc: Global, at: At, part: SelectPart, stack: Stack) -> Answer
     ensures value { Comes result (rows.comms (token_of at []) (select_part part) (stack_view stack)) }
 {
     if at.is_word(Keyword::Case) {
@@ -320,7 +320,10 @@ fn comms(at: At, part: SelectPart, stack: Stack) -> Answer
         );
     }
     if at.is(Operator::RightBrace) {
-        return done(stack, Value::Stmt(select_stmt(part.place, part.comms)));
+        return match select_stmt(alloc, part.place, part.comms) {
+            Ok(s) => done(stack, Value::Stmt(s)),
+            Err(error) => lost(error, stack),
+        };
     }
     stuck_at(Frame::Switch(SwitchFrame::Comms(part)), stack)
 }
@@ -362,14 +365,14 @@ fn after_comm_stmt(
             Frame::Switch(SwitchFrame::CommBody(part, place, said, stmts)),
         );
     }
-    match with_comm(alloc, part.comms, place, said, stmts) {
+    match with_comm(part.comms, place, said, stmts) {
         Ok(all) => {
             let part = SelectPart {
                 blocks: part.blocks,
                 place: part.place,
                 comms: all,
             };
-            comms(at, part, stack)
+            comms(alloc, at, part, stack)
         }
         Err(error) => lost(error, stack),
     }

@@ -4,7 +4,7 @@ ghost use Rattle.std.specs.Prelude.{◌≡◌, Err};
 ghost use Rattle.go_grammar.specs.Frames as f;
 ghost use Rattle.go_frames.specs.FrameView.{Comes};
 
-use crate::gone::gone_tree;
+use crate::gone::{gone, gone_name, gone_stack, gone_tree};
 use gj_base::NoMemory;
 use go_frames::frame::{FilePart, Frame, ParamList, Value};
 use go_frames::stack::{Answer, Flow, Stack};
@@ -58,19 +58,26 @@ pub fn lost_decl(
 }
 
 /// A name that no frame below takes.
-pub fn unnamed(_name: Option<Name>) {}
+pub fn unnamed(name: Option<Name>) {
+    gone_name(name);
+}
 
 /// A tree that nothing takes, at the end of the tokens.
-pub fn untaken(value: Value, _stack: Stack) {
+pub fn untaken(value: Value, stack: Stack) {
     gone_tree(value);
+    gone_stack(stack);
 }
 
 /// The file, with nothing below it that matters.
-pub fn alone(file: File, _stack: Stack) -> File
+pub fn alone(file: File, stack: Stack) -> File
     ensures value { result ≡ file }
 {
+    gone_stack(stack);
     file
 }
 
 /// The frames of a file that has come to its end too early.
-pub fn cut_off(_frame: Frame, _stack: Stack) {}
+pub fn cut_off(frame: Frame, stack: Stack) {
+    gone(frame);
+    gone_stack(stack);
+}

@@ -1,13 +1,17 @@
 //! What is let go.
 //!
-//! An expression or a statement that dies by itself is taken apart in place, form by form, and so makes
-//! a large proof. As a part of a frame it dies by one call. So all trees go through here as frames.
+//! A value that dies is taken apart in place, form by form, which makes a large proof. So each kind dies
+//! in one function, and trees die as parts of a frame.
 
 use go_frames::frame::{Frame, Value};
-use go_syntax::tree::Expr;
+use go_frames::stack::Stack;
+use go_syntax::tree::{Expr, Name};
 
 /// Lets a frame go.
 pub(crate) fn gone(_frame: Frame) {}
+
+/// Lets frames go.
+pub(crate) fn gone_stack(_stack: Stack) {}
 
 /// Lets a tree go.
 pub(crate) fn gone_tree(value: Value) {
@@ -18,3 +22,6 @@ pub(crate) fn gone_tree(value: Value) {
 pub(crate) fn gone_expr(e: Expr) {
     gone_tree(Value::Expr(e));
 }
+
+/// Lets a name go.
+pub(crate) fn gone_name(_name: Option<Name>) {}

@@ -2,37 +2,44 @@
 
 ghost use Rattle.std.specs.Prelude.{◌≡◌, Err};
 
-use crate::gone::gone_tree;
+use crate::gone::{gone, gone_name, gone_stack, gone_tree};
 use gj_base::NoMemory;
 use go_frames::frame::{Braces, Frame, Value};
 use go_frames::stack::{Answer, Stack};
 use go_syntax::tree::Name;
 
 /// The stack.
-pub fn lost(error: NoMemory, _stack: Stack) -> Answer
+pub fn lost(error: NoMemory, stack: Stack) -> Answer
     ensures value { result ≡ Err error }
 {
+    gone_stack(stack);
     Err(error)
 }
 
 /// The same, at this frame.
-pub fn lost_at(error: NoMemory, _frame: Frame, _stack: Stack) -> Answer
+pub fn lost_at(error: NoMemory, frame: Frame, stack: Stack) -> Answer
     ensures value { result ≡ Err error }
 {
+    gone(frame);
+    gone_stack(stack);
     Err(error)
 }
 
 /// The same, at this frame and a tree.
-pub fn lost_with(error: NoMemory, _frame: Frame, _value: Value, _stack: Stack) -> Answer
+pub fn lost_with(error: NoMemory, frame: Frame, value: Value, stack: Stack) -> Answer
     ensures value { result ≡ Err error }
 {
+    gone(frame);
+    gone_tree(value);
+    gone_stack(stack);
     Err(error)
 }
 
 /// A frame alone.
-pub fn lost_frame(error: NoMemory, _frame: Frame) -> Answer
+pub fn lost_frame(error: NoMemory, frame: Frame) -> Answer
     ensures value { result ≡ Err error }
 {
+    gone(frame);
     Err(error)
 }
 
@@ -45,9 +52,11 @@ pub fn lost_tree(error: NoMemory, value: Value) -> Answer
 }
 
 /// The name of a guard, and the stack.
-pub fn lost_name(error: NoMemory, _name: Option<Name>, _stack: Stack) -> Answer
+pub fn lost_name(error: NoMemory, name: Option<Name>, stack: Stack) -> Answer
     ensures value { result ≡ Err error }
 {
+    gone_name(name);
+    gone_stack(stack);
     Err(error)
 }
 

@@ -5,7 +5,7 @@ ghost use Rattle.std.specs.Prelude.{◌≡◌, Err};
 use crate::gone::{gone, gone_expr};
 use gj_base::NoMemory;
 use go_frames::frame::{FieldFrame, Frame, InterfacePart, ParamsPart, Role, StructPart, Untagged};
-use go_syntax::tree::{Elem, Expr};
+use go_syntax::tree::Expr;
 
 /// The expression that the new one would have held.
 pub fn lost_expr(error: NoMemory, expr: Expr) -> Result<Expr, NoMemory>
@@ -15,29 +15,8 @@ pub fn lost_expr(error: NoMemory, expr: Expr) -> Result<Expr, NoMemory>
     Err(error)
 }
 
-/// The elements before.
-pub fn lost_elems(error: NoMemory, _elems: Vec<Elem>) -> Result<Vec<Elem>, NoMemory>
-    ensures value { result ≡ Err error }
-{
-    Err(error)
-}
-
-/// The parameters before.
-pub fn lost_params(error: NoMemory, _part: ParamsPart) -> Result<ParamsPart, NoMemory>
-    ensures value { result ≡ Err error }
-{
-    Err(error)
-}
-
 /// What a parameter list is.
 pub fn lost_role(error: NoMemory, _role: Role) -> Result<ParamsPart, NoMemory>
-    ensures value { result ≡ Err error }
-{
-    Err(error)
-}
-
-/// The fields before.
-pub fn lost_fields(error: NoMemory, _part: StructPart) -> Result<StructPart, NoMemory>
     ensures value { result ≡ Err error }
 {
     Err(error)
@@ -62,8 +41,9 @@ pub fn lost_field(
 }
 
 /// The members before.
-pub fn lost_members(error: NoMemory, _part: InterfacePart) -> Result<InterfacePart, NoMemory>
+pub fn lost_members(error: NoMemory, part: InterfacePart) -> Result<InterfacePart, NoMemory>
     ensures value { result ≡ Err error }
 {
+    gone(Frame::Field(FieldFrame::Members(part)));
     Err(error)
 }

@@ -7,31 +7,10 @@ use crate::lost::{lost, lost_at};
 use gj_base::NoMemory;
 use go_frames::frame::{Frame, Subject, Value};
 use go_frames::stack::{Answer, Stack};
-use go_syntax::tree::{Comm, Expr, Stmt, TypeSpec, ValueSpec};
+use go_syntax::tree::{Expr, Stmt};
 
 /// Lets expressions go that a guard takes the place of.
 pub fn drop_exprs(_es: Vec<Expr>) {}
-
-/// Memory ran out at one more clause of a `select`.
-pub fn lost_comms(error: NoMemory, _list: Vec<Comm>) -> Result<Vec<Comm>, NoMemory>
-    ensures value { result ≡ Err error }
-{
-    Err(error)
-}
-
-/// The same at one more Spec of constants or variables.
-pub fn lost_values(error: NoMemory, _list: Vec<ValueSpec>) -> Result<Vec<ValueSpec>, NoMemory>
-    ensures value { result ≡ Err error }
-{
-    Err(error)
-}
-
-/// The same at one more Spec of a type.
-pub fn lost_types(error: NoMemory, _list: Vec<TypeSpec>) -> Result<Vec<TypeSpec>, NoMemory>
-    ensures value { result ≡ Err error }
-{
-    Err(error)
-}
 
 /// The same at one more clause of a `switch` with this header.
 pub fn lost_header(error: NoMemory, init: Option<Stmt>, subject: Subject, stack: Stack) -> Answer

@@ -249,21 +249,35 @@ fn after_sig(alloc: Global, at: At, c: Ctx, place: Place, sig: Sig, stack: Stack
         let stack = stack.with(Frame::Expr(ExprFrame::FuncBody(c, place, sig)))?;
         return open_block(alloc, at, c.blocks, stack);
     }
-    tail(alloc, at, c, 0, function_type(place, sig), stack)
+    match function_type(alloc, place, sig) {
+        Ok(e) => tail(alloc, at, c, 0, e, stack),
+        Err(error) => lost(error, stack),
+    }
 }
 
 pub fn body_meets(alloc: Global, at: At, frame: ExprFrame, block: Block, stack: Stack) -> Answer
     ensures value { Comes result (steps.body_meets (token_of at []) (expr_frame frame) (block_view block) (stack_view stack)) }
 {
     match frame {
-        ExprFrame::FuncBody(c, place, sig) => tail(
-            alloc,
-            at,
-            c,
-            0,
-            function(place, sig, block),
-            stack,
-        ),
+        ExprFrame::FuncBody(c, place, sig) => after_body(alloc, at, c, place, sig, block, stack),
         other => stuck_with(Frame::Expr(other), Value::Block(block), stack),
+    }
+}
+
+/// A literal of a function.
+fn after_body(
+    alloc: Global,
+    at: At,
+    c: Ctx,
+    place: Place,
+    sig: Sig,
+    block: Block,
+    stack: Stack,
+) -> Answer
+    ensures value { Comes result (steps.body_meets (token_of at []) (f.AtBody (ctx_view c) place (sig_view sig)) (block_view block) (stack_view stack)) }
+{
+    match function(alloc, place, sig, block) {
+        Ok(e) => tail(alloc, at, c, 0, e, stack),
+        Err(error) => lost(error, stack),
     }
 }

@@ -16,7 +16,6 @@ use go_begins::expr::{begin_expr, then_expr};
 use go_begins::types::{begin_type, selected};
 use go_ends::list::{and_elem, and_expr};
 use go_ends::lost::{lost, lost_at, lost_braces};
-use go_ends::lost_part::lost_elems;
 use go_ends::refused::{deep, deep_at, long_at, stuck_at, stuck_with};
 use go_frames::at::At;
 use go_frames::ctx::{Ctx, LONGEST, one_more};
@@ -502,18 +501,10 @@ fn next_argument(
 }
 
 /// The elements with one more.
-fn with_element(
-    alloc: Global,
-    elems: Vec<Elem>,
-    key: Option<Expr>,
-    e: Expr,
-) -> Result<Vec<Elem>, NoMemory>
+fn with_element(elems: Vec<Elem>, key: Option<Expr>, e: Expr) -> Result<Vec<Elem>, NoMemory>
     ensures value { IfOk result (λ all. map elem_view all.items ≡ nodes.and (map elem_view elems.items) (λ rest. t.MoreElems (nodes.maybe (expr_in_option key)) (expr_view e) rest)) }
 {
-    let item = match elem(alloc, key, e) {
-        Ok(item) => item,
-        Err(error) => return lost_elems(error, elems),
-    };
+    let item = elem(key, e);
     let all = and_elem(elems, item)?;
     Ok(all)
 }
@@ -561,7 +552,7 @@ fn end_element(
 ) -> Answer
     ensures value { Comes result (after_element (token_of at []) (braces_view braces) (nodes.and (map elem_view elems.items) (λ rest. t.MoreElems (nodes.maybe (expr_in_option key)) (expr_view e) rest)) (stack_view stack)) }
 {
-    let elems = match with_element(alloc, elems, key, e) {
+    let elems = match with_element(elems, key, e) {
         Ok(elems) => elems,
         Err(error) => return lost_braces(error, braces, stack),
     };

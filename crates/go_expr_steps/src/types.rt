@@ -264,11 +264,21 @@ fn close_key(at: At, c: Ctx, place: Place, key: Expr, stack: Stack) -> Answer
 }
 
 /// What the type `func` does with its signature.
-pub fn type_sig_meets(frame: TypeFrame, sig: Sig, stack: Stack) -> Answer
+pub fn type_sig_meets(alloc: Global, frame: TypeFrame, sig: Sig, stack: Stack) -> Answer
     ensures value { Comes result (steps.type_sig_meets (type_frame frame) (sig_view sig) (stack_view stack)) }
 {
     match frame {
-        TypeFrame::Func(place) => over(stack, Value::Expr(function_type(place, sig))),
+        TypeFrame::Func(place) => over_func(alloc, place, sig, stack),
         other => stuck_with(Frame::Type(other), Value::Sig(sig), stack),
+    }
+}
+
+/// The type `func` Sig.
+fn over_func(alloc: Global, place: Place, sig: Sig, stack: Stack) -> Answer
+    ensures value { Comes result (f.Over (f.AnExpr (t.FuncType place (sig_view sig))) (stack_view stack)) }
+{
+    match function_type(alloc, place, sig) {
+        Ok(e) => over(stack, Value::Expr(e)),
+        Err(error) => lost(error, stack),
     }
 }

@@ -8,7 +8,7 @@ ghost use Rattle.go_grammar.specs.Nodes as nodes;
 ghost use Rattle.go_syntax.specs.declared.operator.Operator.TheVariants as o;
 ghost use Rattle.go_grammar.specs.Nodes.{is_op, is_semicolon, is_string};
 ghost use Rattle.go_grammar.specs.Classes.{name_of};
-ghost use Rattle.go_syntax.specs.View.{expr_view, sig_view, field_view, member_view};
+ghost use Rattle.go_syntax.specs.View.{expr_view, sig_view, field_view, member_view, joined};
 ghost use Rattle.go_frames.specs.FrameView.{untagged_view, field_of, Comes, token_of, ctx_view, struct_part, interface_part, embedded_view, field_frame, stack_view};
 
 use crate::sig::open_params;
@@ -16,7 +16,7 @@ use gj_base::{NoMemory, Place, Text};
 use go_begins::types::{begin_type, selected};
 use go_ends::list::{and_field, and_member, and_name, only_name};
 use go_ends::lost::{lost, lost_at};
-use go_ends::lost_part::{lost_field, lost_fields, lost_members};
+use go_ends::lost_part::{lost_field, lost_members};
 use go_ends::refused::{stuck_at, stuck_with};
 use go_frames::at::At;
 use go_frames::form::{embedded_field, embedded_member, method_member, named_field};
@@ -29,27 +29,19 @@ use go_syntax::Operator;
 use go_syntax::tree::{Expr, Field, Member, Name, Sig};
 use std::alloc::Global;
 
-fn tagged(alloc: Global, field: Untagged, tag: Option<Text>) -> Result<Field, NoMemory>
-    ensures value { IfOk result (λ x. (rest : t.Fields) → field_view x rest ≡ field_of (untagged_view field) tag rest) }
+fn tagged(field: Untagged, tag: Option<Text>) -> Field
+    ensures value { (rest : t.Fields) → field_view result rest ≡ field_of (untagged_view field) tag rest }
 {
     match field {
-        Untagged::Named(names, ty) => named_field(alloc, names, ty, tag),
-        Untagged::Embedded(e) => embedded_field(alloc, e.place, e.star, e.ty, tag),
+        Untagged::Named(names, ty) => named_field(names, ty, tag),
+        Untagged::Embedded(e) => embedded_field(e.place, e.star, e.ty, tag),
     }
 }
 
-fn with_field(
-    alloc: Global,
-    part: StructPart,
-    field: Untagged,
-    tag: Option<Text>,
-) -> Result<StructPart, NoMemory>
+fn with_field(part: StructPart, field: Untagged, tag: Option<Text>) -> Result<StructPart, NoMemory>
     ensures value { IfOk result (λ x. struct_part x ≡ steps.with_field (struct_part part) (untagged_view field) tag) }
 {
-    let field = match tagged(alloc, field, tag) {
-        Ok(field) => field,
-        Err(error) => return lost_fields(error, part),
-    };
+    let field = tagged(field, tag);
     let fields = and_field(part.fields, field)?;
     Ok(StructPart {
         ctx: part.ctx,
@@ -71,19 +63,29 @@ fn with_tag(
         Ok(tag) => tag,
         Err(error) => return lost_field(error, part, field),
     };
-    let part = with_field(alloc, part, field, Some(tag))?;
+    let part = with_field(part, field, Some(tag))?;
     Ok(part)
 }
 
+/// The `}` of a struct type.
+fn close_struct(alloc: Global, part: StructPart, stack: Stack) -> Answer
+    ensures value { Comes result (f.Goes (f.Done (f.AnExpr (t.StructType part.place (joined (struct_part part).fields t.NoFields))) ∷ stack_view stack)) }
+{
+    match struct_type(alloc, part.place, part.fields) {
+        Ok(e) => done(stack, Value::Expr(e)),
+        Err(error) => lost(error, stack),
+    }
+}
+
 /// After a field and its tag: `;` or `}`.
-fn field_end(at: At, part: StructPart, stack: Stack) -> Answer
+fn field_end(alloc: Global, at: At, part: StructPart, stack: Stack) -> Answer
     ensures value { Comes result (steps.field_end (token_of at []) (struct_part part) (stack_view stack)) }
 {
     if at.is_semicolon() {
         return goes(stack, Frame::Field(FieldFrame::Fields(part)));
     }
     if at.is(Operator::RightBrace) {
-        return done(stack, Value::Expr(struct_type(part.place, part.fields)));
+        return close_struct(alloc, part, stack);
     }
     stuck_at(Frame::Field(FieldFrame::End(part)), stack)
 }
@@ -102,11 +104,11 @@ fn end_field(
     if at.is_string() {
         return end_tagged(alloc, part, field, text, stack);
     }
-    let part = match with_field(alloc, part, field, None) {
+    let part = match with_field(part, field, None) {
         Ok(part) => part,
         Err(error) => return lost(error, stack),
     };
-    field_end(at, part, stack)
+    field_end(alloc, at, part, stack)
 }
 
 /// After a field, its tag.
@@ -140,11 +142,11 @@ pub fn field_row(alloc: Global, at: At, text: &[u8], frame: FieldFrame, stack: S
             Untagged::Embedded(e),
             stack,
         ),
-        FieldFrame::End(part) => field_end(at, part, stack),
+        FieldFrame::End(part) => field_end(alloc, at, part, stack),
         FieldFrame::Members(part) => members(alloc, at, text, part, stack),
         FieldFrame::Member(part, name) => member(alloc, at, part, name, stack),
         FieldFrame::MemberDot(part, e) => member_dot(alloc, at, text, part, e, stack),
-        FieldFrame::MemberEnd(part) => member_end(at, part, stack),
+        FieldFrame::MemberEnd(part) => member_end(alloc, at, part, stack),
         other => stuck_at(Frame::Field(other), stack),
     }
 }
@@ -166,12 +168,20 @@ fn field_star(
         Ok(name) => name,
         Err(error) => return lost_at(error, Frame::Field(FieldFrame::Fields(part)), stack),
     };
-    let e = Embedded {
-        place,
-        star: true,
-        ty: name_expr(name),
-    };
-    goes(stack, Frame::Field(FieldFrame::Embedded(part, e)))
+    match name_expr(alloc, name) {
+        Ok(ty) => goes(
+            stack,
+            Frame::Field(FieldFrame::Embedded(
+                part,
+                Embedded {
+                    place,
+                    star: true,
+                    ty,
+                },
+            )),
+        ),
+        Err(error) => lost_at(error, Frame::Field(FieldFrame::Fields(part)), stack),
+    }
 }
 
 /// {Field ";"}
@@ -179,7 +189,7 @@ fn fields(alloc: Global, at: At, text: &[u8], part: StructPart, stack: Stack) ->
     ensures value { Comes result (steps.field_row (token_of at text.now) (f.InStruct (struct_part part)) (stack_view stack)) }
 {
     if at.is(Operator::RightBrace) {
-        return field_end(at, part, stack);
+        return field_end(alloc, at, part, stack);
     }
     if at.is_name() {
         return first_name(alloc, at, text, part, stack);
@@ -200,14 +210,16 @@ fn first_name(alloc: Global, at: At, text: &[u8], part: StructPart, stack: Stack
     }
 }
 
-fn unstarred(name: Name) -> Embedded
-    ensures value { embedded_view result ≡ steps.unstarred name }
+fn unstarred(alloc: Global, name: Name) -> Result<Embedded, NoMemory>
+    ensures value { IfOk result (λ e. embedded_view e ≡ steps.unstarred name) }
 {
-    Embedded {
-        place: name.place,
+    let place = name.place;
+    let ty = name_expr(alloc, name)?;
+    Ok(Embedded {
+        place,
         star: false,
-        ty: name_expr(name),
-    }
+        ty,
+    })
 }
 
 /// An embedded field that is a name alone.
@@ -221,14 +233,10 @@ fn embedded_alone(
 ) -> Answer
     ensures value { Comes result (steps.end_field (token_of at text.now) (struct_part part) (steps.EmbeddedOne (steps.unstarred name)) (stack_view stack)) }
 {
-    end_field(
-        alloc,
-        at,
-        text,
-        part,
-        Untagged::Embedded(unstarred(name)),
-        stack,
-    )
+    match unstarred(alloc, name) {
+        Ok(e) => end_field(alloc, at, text, part, Untagged::Embedded(e), stack),
+        Err(error) => lost_at(error, Frame::Field(FieldFrame::Fields(part)), stack),
+    }
 }
 
 /// Whether the token is a tag or ends a field.
@@ -252,7 +260,10 @@ fn field_name(
         return several_names(alloc, part, name, stack);
     }
     if at.is(Operator::Dot) {
-        return goes(stack, Frame::Field(FieldFrame::Dot(part, unstarred(name))));
+        return match unstarred(alloc, name) {
+            Ok(e) => goes(stack, Frame::Field(FieldFrame::Dot(part, e))),
+            Err(error) => lost_at(error, Frame::Field(FieldFrame::Fields(part)), stack),
+        };
     }
     if ends_field(at) {
         return embedded_alone(alloc, at, text, part, name, stack);
@@ -412,11 +423,11 @@ fn with_member(part: InterfacePart, member: Member) -> Result<InterfacePart, NoM
 fn with_named(alloc: Global, part: InterfacePart, name: Name) -> Result<InterfacePart, NoMemory>
     ensures value { IfOk result (λ x. interface_part x ≡ steps.with_member (interface_part part) (λ rest. t.EmbeddedMember (nodes.name_expr name) rest)) }
 {
-    let item = match embedded_member(alloc, name_expr(name)) {
-        Ok(item) => item,
+    let ty = match name_expr(alloc, name) {
+        Ok(ty) => ty,
         Err(error) => return lost_members(error, part),
     };
-    let part = with_member(part, item)?;
+    let part = with_member(part, embedded_member(ty))?;
     Ok(part)
 }
 
@@ -434,11 +445,7 @@ fn with_selected(
         Ok(ty) => ty,
         Err(error) => return lost_members(error, part),
     };
-    let item = match embedded_member(alloc, ty) {
-        Ok(item) => item,
-        Err(error) => return lost_members(error, part),
-    };
-    let part = with_member(part, item)?;
+    let part = with_member(part, embedded_member(ty))?;
     Ok(part)
 }
 
@@ -450,15 +457,25 @@ fn with_method(part: InterfacePart, name: Name, sig: Sig) -> Result<InterfacePar
     Ok(part)
 }
 
+/// The `}` of an interface type.
+fn close_interface(alloc: Global, part: InterfacePart, stack: Stack) -> Answer
+    ensures value { Comes result (f.Goes (f.Done (f.AnExpr (t.InterfaceType part.place (joined (interface_part part).members t.NoMembers))) ∷ stack_view stack)) }
+{
+    match interface_type(alloc, part.place, part.members) {
+        Ok(e) => done(stack, Value::Expr(e)),
+        Err(error) => lost(error, stack),
+    }
+}
+
 /// After a member: `;` or `}`.
-fn member_end(at: At, part: InterfacePart, stack: Stack) -> Answer
+fn member_end(alloc: Global, at: At, part: InterfacePart, stack: Stack) -> Answer
     ensures value { Comes result (steps.member_end (token_of at []) (interface_part part) (stack_view stack)) }
 {
     if at.is_semicolon() {
         return goes(stack, Frame::Field(FieldFrame::Members(part)));
     }
     if at.is(Operator::RightBrace) {
-        return done(stack, Value::Expr(interface_type(part.place, part.members)));
+        return close_interface(alloc, part, stack);
     }
     stuck_at(Frame::Field(FieldFrame::MemberEnd(part)), stack)
 }
@@ -468,7 +485,7 @@ fn members(alloc: Global, at: At, text: &[u8], part: InterfacePart, stack: Stack
     ensures value { Comes result (steps.field_row (token_of at text.now) (f.InInterface (interface_part part)) (stack_view stack)) }
 {
     if at.is(Operator::RightBrace) {
-        return member_end(at, part, stack);
+        return member_end(alloc, at, part, stack);
     }
     if at.is_name() {
         return member_name(alloc, at, text, part, stack);
@@ -495,16 +512,16 @@ fn member(alloc: Global, at: At, part: InterfacePart, name: Name, stack: Stack) 
         return open_params(alloc, at, c, Role::Params, stack);
     }
     if at.is(Operator::Dot) {
-        return goes(
-            stack,
-            Frame::Field(FieldFrame::MemberDot(part, name_expr(name))),
-        );
+        return match name_expr(alloc, name) {
+            Ok(e) => goes(stack, Frame::Field(FieldFrame::MemberDot(part, e))),
+            Err(error) => lost_at(error, Frame::Field(FieldFrame::Members(part)), stack),
+        };
     }
     let part = match with_named(alloc, part, name) {
         Ok(part) => part,
         Err(error) => return lost(error, stack),
     };
-    member_end(at, part, stack)
+    member_end(alloc, at, part, stack)
 }
 
 fn member_dot(
@@ -528,22 +545,29 @@ fn member_dot(
 }
 
 /// What a method does with its signature at the token.
-pub fn method_meets(at: At, frame: FieldFrame, sig: Sig, stack: Stack) -> Answer
+pub fn method_meets(alloc: Global, at: At, frame: FieldFrame, sig: Sig, stack: Stack) -> Answer
     ensures value { Comes result (steps.method_meets (token_of at []) (field_frame frame) (sig_view sig) (stack_view stack)) }
 {
     match frame {
-        FieldFrame::Method(part, name) => end_method(at, part, name, sig, stack),
+        FieldFrame::Method(part, name) => end_method(alloc, at, part, name, sig, stack),
         other => stuck_with(Frame::Field(other), Value::Sig(sig), stack),
     }
 }
 
 /// A method, and what comes after it.
-fn end_method(at: At, part: InterfacePart, name: Name, sig: Sig, stack: Stack) -> Answer
+fn end_method(
+    alloc: Global,
+    at: At,
+    part: InterfacePart,
+    name: Name,
+    sig: Sig,
+    stack: Stack,
+) -> Answer
     ensures value { Comes result (steps.member_end (token_of at []) (steps.with_member (interface_part part) (λ rest. t.MethodMember name (sig_view sig) rest)) (stack_view stack)) }
 {
     let part = match with_method(part, name, sig) {
         Ok(part) => part,
         Err(error) => return lost(error, stack),
     };
-    member_end(at, part, stack)
+    member_end(alloc, at, part, stack)
 }

@@ -16,7 +16,7 @@ use gj_base::{NoMemory, Place};
 use go_begins::types::{begin_type, then_type};
 use go_ends::list::and_param;
 use go_ends::lost::{lost, lost_at, lost_frame};
-use go_ends::lost_part::{lost_params, lost_role};
+use go_ends::lost_part::lost_role;
 use go_ends::refused::{deep_at, stuck_at, stuck_with};
 use go_frames::at::{At, begins_type};
 use go_frames::ctx::Ctx;
@@ -129,7 +129,7 @@ fn param_name(
     }
     let c = part.ctx.inside();
     if at.is(Operator::Dot) {
-        return qualified(part, name, stack);
+        return qualified(alloc, part, name, stack);
     }
     if at.is(Operator::Ellipsis) {
         let stack = stack.with(Frame::Sig(SigFrame::Param(part, place, Some(name), true)))?;
@@ -140,11 +140,14 @@ fn param_name(
 }
 
 /// A parameter whose type begins with the name and a dot.
-fn qualified(part: ParamsPart, name: Name, stack: Stack) -> Answer
+fn qualified(alloc: Global, part: ParamsPart, name: Name, stack: Stack) -> Answer
     ensures value { Comes result (f.Goes (f.OfType (f.TypeDot (nodes.name_expr name)) ∷ f.OfSig (f.Param (params_part part) name.place None false) ∷ stack_view stack)) }
 {
     let place = name.place;
-    let dot = Frame::Type(TypeFrame::Dot(name_expr(name)));
+    let dot = match name_expr(alloc, name) {
+        Ok(e) => Frame::Type(TypeFrame::Dot(e)),
+        Err(error) => return lost_at(error, Frame::Sig(SigFrame::Params(part)), stack),
+    };
     match stack.with(Frame::Sig(SigFrame::Param(part, place, None, false))) {
         Ok(stack) => goes(stack, dot),
         Err(error) => lost_frame(error, dot),
@@ -156,12 +159,14 @@ fn unnamed(alloc: Global, at: At, part: ParamsPart, name: Name, stack: Stack) ->
     ensures value { Comes result (steps.end_param (token_of at []) (params_part part) name.place None false (nodes.name_expr name) (stack_view stack)) }
 {
     let place = name.place;
-    end_param(alloc, at, part, place, None, false, name_expr(name), stack)
+    match name_expr(alloc, name) {
+        Ok(e) => end_param(at, part, place, None, false, e, stack),
+        Err(error) => lost_at(error, Frame::Sig(SigFrame::Params(part)), stack),
+    }
 }
 
 /// The list with one more parameter.
 fn with_param(
-    alloc: Global,
     part: ParamsPart,
     place: Place,
     name: Option<Name>,
@@ -170,10 +175,7 @@ fn with_param(
 ) -> Result<ParamsPart, NoMemory>
     ensures value { IfOk result (λ x. params_part x ≡ with_param (params_part part) place name variadic (expr_view ty)) }
 {
-    let item = match param(alloc, place, name, variadic, ty) {
-        Ok(item) => item,
-        Err(error) => return lost_params(error, part),
-    };
+    let item = param(place, name, variadic, ty);
     let items = match and_param(part.items, item) {
         Ok(items) => items,
         Err(error) => return lost_role(error, part.role),
@@ -188,7 +190,6 @@ fn with_param(
 
 /// A parameter, and what comes after it.
 fn end_param(
-    alloc: Global,
     at: At,
     part: ParamsPart,
     place: Place,
@@ -199,7 +200,7 @@ fn end_param(
 ) -> Answer
     ensures value { Comes result (steps.end_param (token_of at []) (params_part part) place name variadic (expr_view ty) (stack_view stack)) }
 {
-    let part = match with_param(alloc, part, place, name, variadic, ty) {
+    let part = match with_param(part, place, name, variadic, ty) {
         Ok(part) => part,
         Err(error) => return lost(error, stack),
     };
@@ -234,24 +235,14 @@ fn results(alloc: Global, at: At, text: &[u8], c: Ctx, params: ParamList, stack:
 }
 
 /// What a frame that waits for a type does with it at the token.
-pub fn sig_meets(alloc: Global, at: At, frame: SigFrame, e: Expr, stack: Stack) -> Answer
+pub fn sig_meets(at: At, frame: SigFrame, e: Expr, stack: Stack) -> Answer
     ensures value { Comes result (steps.sig_meets (token_of at []) (sig_frame frame) (expr_view e) (stack_view stack)) }
 {
     match frame {
         SigFrame::Param(part, place, name, variadic) => end_param(
-            alloc, at, part, place, name, variadic, e, stack,
+            at, part, place, name, variadic, e, stack,
         ),
-        SigFrame::Result(params) => over_result(alloc, params, e, stack),
+        SigFrame::Result(params) => over(stack, Value::Sig(sig_of_one(params, e))),
         other => stuck_with(Frame::Sig(other), Value::Expr(e), stack),
-    }
-}
-
-/// A signature with one result without parentheses.
-fn over_result(alloc: Global, params: ParamList, ty: Expr, stack: Stack) -> Answer
-    ensures value { Comes result (f.Over (f.ASig (t.SigOf params.place (joined (params_in params) t.NoParams) (t.OneResult (expr_view ty)))) (stack_view stack)) }
-{
-    match sig_of_one(alloc, params, ty) {
-        Ok(sig) => over(stack, Value::Sig(sig)),
-        Err(error) => lost(error, stack),
     }
 }

@@ -1,7 +1,6 @@
 -- The frames that the definitions see of the code's frames: the same ones, with the trees that
 -- contracts see. For private clauses.
-use Rattle.std.specs.Prelude.{◌≡◌, ⊤, ℕ, Bool, true, false, List, [], ◌∷◌, Option, Some, None, map, Box, Result, Ok, Err}
-use Rattle.std.specs.declared.alloc.Global.{Global}
+use Rattle.std.specs.Prelude.{◌≡◌, ⊤, ℕ, Bool, true, false, List, [], ◌∷◌, Option, Some, None, map, Result, Ok, Err}
 use Rattle.gj_base.specs.declared.memory.NoMemory.{NoMemory}
 use Rattle.gj_base.specs.declared.place.Place.{Place}
 use Rattle.go_syntax.specs.Tree as t
@@ -96,14 +95,6 @@ expr_perhaps (Some x) = t.AnExpr (expr_view x)
 abbrev pub stmt_perhaps : Option Stmt → t.MaybeStmt
 stmt_perhaps None = t.NoStmt
 stmt_perhaps (Some x) = t.AStmt (stmt_view x)
-
-abbrev pub perhaps_boxed : Option (Box Expr Global) → t.MaybeExpr
-perhaps_boxed None = t.NoExpr
-perhaps_boxed (Some x) = t.AnExpr (expr_view x.value)
-
-abbrev pub perhaps_boxed_stmt : Option (Box Stmt Global) → t.MaybeStmt
-perhaps_boxed_stmt None = t.NoStmt
-perhaps_boxed_stmt (Some x) = t.AStmt (stmt_view x.value)
 
 -- parameters so far, each before the rest
 abbrev pub params_in : ParamList → f.Params

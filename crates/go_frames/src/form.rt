@@ -8,44 +8,30 @@ ghost use Rattle.go_grammar.specs.StmtSteps as rows;
 ghost use Rattle.go_frames.specs.FrameView.{one_of, expr_in_option, expr_perhaps, stmt_perhaps, exprs_in, stmts_in, params_in};
 
 use crate::frame::ParamList;
-use crate::node::{boxed, boxed_option, boxed_stmt, boxed_stmt_option};
 use gj_base::{NoMemory, Op, Place, Text};
+use go_syntax::node::{declaration, statement};
 use go_syntax::tree::{
     Block, Clause, Comm, Decl, DeclForm, Expr, Field, Member, Name, Param, Params, Results, Sig,
     Stmt, StmtForm, TypeSpec, ValueSpec,
 };
 use std::alloc::Global;
 
-pub fn named_field(
-    alloc: Global,
-    names: Vec<Name>,
-    ty: Expr,
-    tag: Option<Text>,
-) -> Result<Field, NoMemory>
-    ensures value { IfOk result (λ x. (rest : t.Fields) → field_view x rest ≡ t.NamedFields names.items (expr_view ty) tag rest) }
+pub fn named_field(names: Vec<Name>, ty: Expr, tag: Option<Text>) -> Field
+    ensures value { (rest : t.Fields) → field_view result rest ≡ t.NamedFields names.items (expr_view ty) tag rest }
 {
-    let ty = boxed(alloc, ty)?;
-    Ok(Field::Named(names, ty, tag))
+    Field::Named(names, ty, tag)
 }
 
-pub fn embedded_field(
-    alloc: Global,
-    place: Place,
-    star: bool,
-    ty: Expr,
-    tag: Option<Text>,
-) -> Result<Field, NoMemory>
-    ensures value { IfOk result (λ x. (rest : t.Fields) → field_view x rest ≡ t.EmbeddedField place star (expr_view ty) tag rest) }
+pub fn embedded_field(place: Place, star: bool, ty: Expr, tag: Option<Text>) -> Field
+    ensures value { (rest : t.Fields) → field_view result rest ≡ t.EmbeddedField place star (expr_view ty) tag rest }
 {
-    let ty = boxed(alloc, ty)?;
-    Ok(Field::Embedded(place, star, ty, tag))
+    Field::Embedded(place, star, ty, tag)
 }
 
-pub fn embedded_member(alloc: Global, ty: Expr) -> Result<Member, NoMemory>
-    ensures value { IfOk result (λ x. (rest : t.Members) → member_view x rest ≡ t.EmbeddedMember (expr_view ty) rest) }
+pub fn embedded_member(ty: Expr) -> Member
+    ensures value { (rest : t.Members) → member_view result rest ≡ t.EmbeddedMember (expr_view ty) rest }
 {
-    let ty = boxed(alloc, ty)?;
-    Ok(Member::Embedded(ty))
+    Member::Embedded(ty)
 }
 
 pub fn method_member(name: Name, sig: Sig) -> Member
@@ -54,22 +40,15 @@ pub fn method_member(name: Name, sig: Sig) -> Member
     Member::Method(name, sig)
 }
 
-pub fn param(
-    alloc: Global,
-    place: Place,
-    name: Option<Name>,
-    variadic: bool,
-    ty: Expr,
-) -> Result<Param, NoMemory>
-    ensures value { IfOk result (λ x. (rest : t.Params) → param_view x rest ≡ t.MoreParams place name variadic (expr_view ty) rest) }
+pub fn param(place: Place, name: Option<Name>, variadic: bool, ty: Expr) -> Param
+    ensures value { (rest : t.Params) → param_view result rest ≡ t.MoreParams place name variadic (expr_view ty) rest }
 {
-    let ty = boxed(alloc, ty)?;
-    Ok(Param {
+    Param {
         place,
         name,
         variadic,
         ty,
-    })
+    }
 }
 
 pub fn params(list: ParamList) -> Params
@@ -91,14 +70,13 @@ pub fn sig_of_none(list: ParamList) -> Sig
 }
 
 /// A signature with one result without parentheses.
-pub fn sig_of_one(alloc: Global, list: ParamList, ty: Expr) -> Result<Sig, NoMemory>
-    ensures value { IfOk result (λ s. sig_view s ≡ t.SigOf list.place (joined (params_in list) t.NoParams) (t.OneResult (expr_view ty))) }
+pub fn sig_of_one(list: ParamList, ty: Expr) -> Sig
+    ensures value { sig_view result ≡ t.SigOf list.place (joined (params_in list) t.NoParams) (t.OneResult (expr_view ty)) }
 {
-    let ty = boxed(alloc, ty)?;
-    Ok(Sig {
+    Sig {
         params: params(list),
         results: Results::Type(ty),
-    })
+    }
 }
 
 pub fn sig_of_many(list: ParamList, after: ParamList) -> Sig
@@ -116,30 +94,24 @@ pub fn block(place: Place, stmts: Vec<Stmt>, end: Place) -> Block
     Block { place, stmts, end }
 }
 
-pub fn block_stmt(block: Block) -> Stmt
-    ensures value { stmt_view result ≡ nodes.block_stmt (block_view block) }
+pub fn block_stmt(alloc: Global, block: Block) -> Result<Stmt, NoMemory>
+    ensures value { IfOk result (λ s. stmt_view s ≡ nodes.block_stmt (block_view block)) }
 {
-    Stmt {
-        place: block.place,
-        form: StmtForm::Block(block),
-    }
+    statement(alloc, block.place, StmtForm::Block(block))
 }
 
 /// A statement that is an expression, or several.
-pub fn exprs_stmt(place: Place, es: Vec<Expr>) -> Stmt
-    ensures value { stmt_view result ≡ t.ExprStmt place (exprs_of (exprs_in es.items)) }
+pub fn exprs_stmt(alloc: Global, place: Place, es: Vec<Expr>) -> Result<Stmt, NoMemory>
+    ensures value { IfOk result (λ s. stmt_view s ≡ t.ExprStmt place (exprs_of (exprs_in es.items))) }
 {
-    Stmt {
-        place,
-        form: StmtForm::Expr(es),
-    }
+    statement(alloc, place, StmtForm::Expr(es))
 }
 
 /// The one expression that a statement is, where it is one.
 pub fn into_expr(s: Stmt) -> Option<Expr>
     ensures value { expr_in_option result ≡ nodes.expr_in (stmt_view s) }
 {
-    match s.form {
+    match Box::into_inner(s.form) {
         StmtForm::Expr(es) => only_one(es),
         _ => None,
     }
@@ -159,134 +131,106 @@ pub fn only_one(es: Vec<Expr>) -> Option<Expr>
 pub fn go(alloc: Global, place: Place, e: Expr) -> Result<Stmt, NoMemory>
     ensures value { IfOk result (λ s. stmt_view s ≡ t.GoStmt place (expr_view e)) }
 {
-    let e = boxed(alloc, e)?;
-    Ok(Stmt {
-        place,
-        form: StmtForm::Go(e),
-    })
+    statement(alloc, place, StmtForm::Go(e))
 }
 
 pub fn defer(alloc: Global, place: Place, e: Expr) -> Result<Stmt, NoMemory>
     ensures value { IfOk result (λ s. stmt_view s ≡ t.DeferStmt place (expr_view e)) }
 {
-    let e = boxed(alloc, e)?;
-    Ok(Stmt {
-        place,
-        form: StmtForm::Defer(e),
-    })
+    statement(alloc, place, StmtForm::Defer(e))
 }
 
 pub fn send(alloc: Global, place: Place, cs: Vec<Expr>, e: Expr) -> Result<Stmt, NoMemory>
     ensures value { IfOk result (λ s. stmt_view s ≡ t.SendStmt place (exprs_of (exprs_in cs.items)) (expr_view e)) }
 {
-    let e = boxed(alloc, e)?;
-    Ok(Stmt {
-        place,
-        form: StmtForm::Send(cs, e),
-    })
+    statement(alloc, place, StmtForm::Send(cs, e))
 }
 
-pub fn increment(place: Place, es: Vec<Expr>, up: bool) -> Stmt
-    ensures value { stmt_view result ≡ t.IncDecStmt place (exprs_of (exprs_in es.items)) up }
+pub fn increment(alloc: Global, place: Place, es: Vec<Expr>, up: bool) -> Result<Stmt, NoMemory>
+    ensures value { IfOk result (λ s. stmt_view s ≡ t.IncDecStmt place (exprs_of (exprs_in es.items)) up) }
 {
-    Stmt {
-        place,
-        form: StmtForm::IncDec(es, up),
-    }
+    statement(alloc, place, StmtForm::IncDec(es, up))
 }
 
 pub fn labeled(alloc: Global, name: Name, s: Stmt) -> Result<Stmt, NoMemory>
     ensures value { IfOk result (λ r. stmt_view r ≡ t.LabeledStmt name.place name (stmt_view s)) }
 {
     let place = name.place;
-    let s = boxed_stmt(alloc, s)?;
-    Ok(Stmt {
-        place,
-        form: StmtForm::Labeled(name, s),
-    })
+    statement(alloc, place, StmtForm::Labeled(name, s))
 }
 
-pub fn empty(place: Place) -> Stmt
-    ensures value { stmt_view result ≡ t.EmptyStmt place }
+pub fn empty(alloc: Global, place: Place) -> Result<Stmt, NoMemory>
+    ensures value { IfOk result (λ s. stmt_view s ≡ t.EmptyStmt place) }
 {
-    Stmt {
-        place,
-        form: StmtForm::Empty,
-    }
+    statement(alloc, place, StmtForm::Empty)
 }
 
-pub fn fall_through(place: Place) -> Stmt
-    ensures value { stmt_view result ≡ t.FallthroughStmt place }
+pub fn fall_through(alloc: Global, place: Place) -> Result<Stmt, NoMemory>
+    ensures value { IfOk result (λ s. stmt_view s ≡ t.FallthroughStmt place) }
 {
-    Stmt {
-        place,
-        form: StmtForm::Fallthrough,
-    }
+    statement(alloc, place, StmtForm::Fallthrough)
 }
 
-pub fn return_stmt(place: Place, es: Vec<Expr>) -> Stmt
-    ensures value { stmt_view result ≡ t.ReturnStmt place (exprs_of (exprs_in es.items)) }
+pub fn return_stmt(alloc: Global, place: Place, es: Vec<Expr>) -> Result<Stmt, NoMemory>
+    ensures value { IfOk result (λ s. stmt_view s ≡ t.ReturnStmt place (exprs_of (exprs_in es.items))) }
 {
-    Stmt {
-        place,
-        form: StmtForm::Return(es),
-    }
+    statement(alloc, place, StmtForm::Return(es))
 }
 
-pub fn break_to(place: Place, is_break: bool, name: Option<Name>) -> Stmt
-    ensures value { stmt_view result ≡ rows.break_to place is_break name }
+pub fn break_to(
+    alloc: Global,
+    place: Place,
+    is_break: bool,
+    name: Option<Name>,
+) -> Result<Stmt, NoMemory>
+    ensures value { IfOk result (λ s. stmt_view s ≡ rows.break_to place is_break name) }
 {
     if is_break {
-        return break_stmt(place, name);
+        return break_stmt(alloc, place, name);
     }
-    continue_stmt(place, name)
+    continue_stmt(alloc, place, name)
 }
 
-fn break_stmt(place: Place, name: Option<Name>) -> Stmt
-    ensures value { stmt_view result ≡ t.BreakStmt place name }
+fn break_stmt(alloc: Global, place: Place, name: Option<Name>) -> Result<Stmt, NoMemory>
+    ensures value { IfOk result (λ s. stmt_view s ≡ t.BreakStmt place name) }
 {
-    Stmt {
-        place,
-        form: StmtForm::Break(name),
-    }
+    statement(alloc, place, StmtForm::Break(name))
 }
 
-fn continue_stmt(place: Place, name: Option<Name>) -> Stmt
-    ensures value { stmt_view result ≡ t.ContinueStmt place name }
+fn continue_stmt(alloc: Global, place: Place, name: Option<Name>) -> Result<Stmt, NoMemory>
+    ensures value { IfOk result (λ s. stmt_view s ≡ t.ContinueStmt place name) }
 {
-    Stmt {
-        place,
-        form: StmtForm::Continue(name),
-    }
+    statement(alloc, place, StmtForm::Continue(name))
 }
 
-pub fn assign(place: Place, left: Vec<Expr>, op: Option<Op>, right: Vec<Expr>) -> Stmt
-    ensures value { stmt_view result ≡ t.AssignStmt place (exprs_of (exprs_in left.items)) op (exprs_of (exprs_in right.items)) }
+pub fn assign(
+    alloc: Global,
+    place: Place,
+    left: Vec<Expr>,
+    op: Option<Op>,
+    right: Vec<Expr>,
+) -> Result<Stmt, NoMemory>
+    ensures value { IfOk result (λ s. stmt_view s ≡ t.AssignStmt place (exprs_of (exprs_in left.items)) op (exprs_of (exprs_in right.items))) }
 {
-    Stmt {
-        place,
-        form: StmtForm::Assign(left, op, right),
-    }
+    statement(alloc, place, StmtForm::Assign(left, op, right))
 }
 
-pub fn define(place: Place, left: Vec<Expr>, right: Vec<Expr>) -> Stmt
-    ensures value { stmt_view result ≡ t.DefineStmt place (exprs_of (exprs_in left.items)) (exprs_of (exprs_in right.items)) }
+pub fn define(
+    alloc: Global,
+    place: Place,
+    left: Vec<Expr>,
+    right: Vec<Expr>,
+) -> Result<Stmt, NoMemory>
+    ensures value { IfOk result (λ s. stmt_view s ≡ t.DefineStmt place (exprs_of (exprs_in left.items)) (exprs_of (exprs_in right.items))) }
 {
-    Stmt {
-        place,
-        form: StmtForm::Define(left, right),
-    }
+    statement(alloc, place, StmtForm::Define(left, right))
 }
 
 pub fn decl_stmt(alloc: Global, d: Decl) -> Result<Stmt, NoMemory>
     ensures value { IfOk result (λ s. stmt_view s ≡ t.DeclStmt (nodes.place_of_decl (decl_view d)) (decl_view d)) }
 {
     let place = d.place;
-    let d = Box::new(alloc, d)?;
-    Ok(Stmt {
-        place,
-        form: StmtForm::Decl(d),
-    })
+    statement(alloc, place, StmtForm::Decl(d))
 }
 
 pub fn if_stmt(
@@ -299,13 +243,7 @@ pub fn if_stmt(
 ) -> Result<Stmt, NoMemory>
     ensures value { IfOk result (λ s. stmt_view s ≡ t.IfStmt place (stmt_perhaps init) (expr_view e) (block_view block) (stmt_perhaps other)) }
 {
-    let init = boxed_stmt_option(alloc, init)?;
-    let e = boxed(alloc, e)?;
-    let other = boxed_stmt_option(alloc, other)?;
-    Ok(Stmt {
-        place,
-        form: StmtForm::If(init, e, block, other),
-    })
+    statement(alloc, place, StmtForm::If(init, e, block, other))
 }
 
 pub fn for_stmt(
@@ -318,13 +256,7 @@ pub fn for_stmt(
 ) -> Result<Stmt, NoMemory>
     ensures value { IfOk result (λ s. stmt_view s ≡ t.ForStmt place (stmt_perhaps init) (expr_perhaps e) (stmt_perhaps post) (block_view block)) }
 {
-    let init = boxed_stmt_option(alloc, init)?;
-    let e = boxed_option(alloc, e)?;
-    let post = boxed_stmt_option(alloc, post)?;
-    Ok(Stmt {
-        place,
-        form: StmtForm::For(init, e, post, block),
-    })
+    statement(alloc, place, StmtForm::For(init, e, post, block))
 }
 
 pub fn range(
@@ -337,11 +269,7 @@ pub fn range(
 ) -> Result<Stmt, NoMemory>
     ensures value { IfOk result (λ s. stmt_view s ≡ t.RangeStmt place (exprs_of (exprs_in left.items)) fresh (expr_view e) (block_view block)) }
 {
-    let e = boxed(alloc, e)?;
-    Ok(Stmt {
-        place,
-        form: StmtForm::Range(left, fresh, e, block),
-    })
+    statement(alloc, place, StmtForm::Range(left, fresh, e, block))
 }
 
 pub fn switch(
@@ -353,12 +281,7 @@ pub fn switch(
 ) -> Result<Stmt, NoMemory>
     ensures value { IfOk result (λ s. stmt_view s ≡ t.SwitchStmt place (stmt_perhaps init) (expr_perhaps e) (joined (map clause_view clauses.items) t.NoClauses)) }
 {
-    let init = boxed_stmt_option(alloc, init)?;
-    let e = boxed_option(alloc, e)?;
-    Ok(Stmt {
-        place,
-        form: StmtForm::Switch(init, e, clauses),
-    })
+    statement(alloc, place, StmtForm::Switch(init, e, clauses))
 }
 
 pub fn type_switch(
@@ -371,21 +294,13 @@ pub fn type_switch(
 ) -> Result<Stmt, NoMemory>
     ensures value { IfOk result (λ s. stmt_view s ≡ t.TypeSwitchStmt place (stmt_perhaps init) name (expr_view e) (joined (map clause_view clauses.items) t.NoClauses)) }
 {
-    let init = boxed_stmt_option(alloc, init)?;
-    let e = boxed(alloc, e)?;
-    Ok(Stmt {
-        place,
-        form: StmtForm::TypeSwitch(init, name, e, clauses),
-    })
+    statement(alloc, place, StmtForm::TypeSwitch(init, name, e, clauses))
 }
 
-pub fn select_stmt(place: Place, comms: Vec<Comm>) -> Stmt
-    ensures value { stmt_view result ≡ t.SelectStmt place (joined (map comm_view comms.items) t.NoComms) }
+pub fn select_stmt(alloc: Global, place: Place, comms: Vec<Comm>) -> Result<Stmt, NoMemory>
+    ensures value { IfOk result (λ s. stmt_view s ≡ t.SelectStmt place (joined (map comm_view comms.items) t.NoComms)) }
 {
-    Stmt {
-        place,
-        form: StmtForm::Select(comms),
-    }
+    statement(alloc, place, StmtForm::Select(comms))
 }
 
 pub fn clause(place: Place, exprs: Vec<Expr>, body: Vec<Stmt>) -> Clause
@@ -394,78 +309,67 @@ pub fn clause(place: Place, exprs: Vec<Expr>, body: Vec<Stmt>) -> Clause
     Clause { place, exprs, body }
 }
 
-pub fn comm(
+pub fn comm(place: Place, stmt: Option<Stmt>, body: Vec<Stmt>) -> Comm
+    ensures value { (rest : t.Comms) → comm_view result rest ≡ t.MoreComms place (stmt_perhaps stmt) (stmts_of (stmts_in body.items)) rest }
+{
+    Comm { place, stmt, body }
+}
+
+pub fn const_decl(alloc: Global, place: Place, specs: Vec<ValueSpec>) -> Result<Decl, NoMemory>
+    ensures value { IfOk result (λ d. decl_view d ≡ t.ConstDecl place (joined (map value_spec_view specs.items) t.NoValues)) }
+{
+    declaration(alloc, place, DeclForm::Const(specs))
+}
+
+pub fn var_decl(alloc: Global, place: Place, specs: Vec<ValueSpec>) -> Result<Decl, NoMemory>
+    ensures value { IfOk result (λ d. decl_view d ≡ t.VarDecl place (joined (map value_spec_view specs.items) t.NoValues)) }
+{
+    declaration(alloc, place, DeclForm::Var(specs))
+}
+
+pub fn type_decl(alloc: Global, place: Place, specs: Vec<TypeSpec>) -> Result<Decl, NoMemory>
+    ensures value { IfOk result (λ d. decl_view d ≡ t.TypeDecl place (joined (map type_spec_view specs.items) t.NoTypes)) }
+{
+    declaration(alloc, place, DeclForm::TypeDecl(specs))
+}
+
+pub fn func_decl(
     alloc: Global,
     place: Place,
-    stmt: Option<Stmt>,
-    body: Vec<Stmt>,
-) -> Result<Comm, NoMemory>
-    ensures value { IfOk result (λ x. (rest : t.Comms) → comm_view x rest ≡ t.MoreComms place (stmt_perhaps stmt) (stmts_of (stmts_in body.items)) rest) }
+    name: Name,
+    sig: Sig,
+    body: Block,
+) -> Result<Decl, NoMemory>
+    ensures value { IfOk result (λ d. decl_view d ≡ t.FuncDecl place name (sig_view sig) (block_view body)) }
 {
-    let stmt = boxed_stmt_option(alloc, stmt)?;
-    Ok(Comm { place, stmt, body })
+    declaration(alloc, place, DeclForm::Func(None, name, sig, body))
 }
 
-pub fn const_decl(place: Place, specs: Vec<ValueSpec>) -> Decl
-    ensures value { decl_view result ≡ t.ConstDecl place (joined (map value_spec_view specs.items) t.NoValues) }
-{
-    Decl {
-        place,
-        form: DeclForm::Const(specs),
-    }
-}
-
-pub fn var_decl(place: Place, specs: Vec<ValueSpec>) -> Decl
-    ensures value { decl_view result ≡ t.VarDecl place (joined (map value_spec_view specs.items) t.NoValues) }
-{
-    Decl {
-        place,
-        form: DeclForm::Var(specs),
-    }
-}
-
-pub fn type_decl(place: Place, specs: Vec<TypeSpec>) -> Decl
-    ensures value { decl_view result ≡ t.TypeDecl place (joined (map type_spec_view specs.items) t.NoTypes) }
-{
-    Decl {
-        place,
-        form: DeclForm::TypeDecl(specs),
-    }
-}
-
-pub fn func_decl(place: Place, name: Name, sig: Sig, body: Block) -> Decl
-    ensures value { decl_view result ≡ t.FuncDecl place name (sig_view sig) (block_view body) }
-{
-    Decl {
-        place,
-        form: DeclForm::Func(None, name, sig, body),
-    }
-}
-
-pub fn method_decl(place: Place, list: ParamList, name: Name, sig: Sig, body: Block) -> Decl
-    ensures value { decl_view result ≡ t.MethodDecl place list.place (joined (params_in list) t.NoParams) name (sig_view sig) (block_view body) }
-{
-    Decl {
-        place,
-        form: DeclForm::Func(Some(params(list)), name, sig, body),
-    }
-}
-
-pub fn value_spec(
+pub fn method_decl(
     alloc: Global,
-    names: Vec<Name>,
-    ty: Option<Expr>,
-    values: Vec<Expr>,
-) -> Result<ValueSpec, NoMemory>
-    ensures value { IfOk result (λ x. (rest : t.ValueSpecs) → value_spec_view x rest ≡ t.MoreValues names.items (expr_perhaps ty) (exprs_of (exprs_in values.items)) rest) }
+    place: Place,
+    list: ParamList,
+    name: Name,
+    sig: Sig,
+    body: Block,
+) -> Result<Decl, NoMemory>
+    ensures value { IfOk result (λ d. decl_view d ≡ t.MethodDecl place list.place (joined (params_in list) t.NoParams) name (sig_view sig) (block_view body)) }
 {
-    let ty = boxed_option(alloc, ty)?;
-    Ok(ValueSpec { names, ty, values })
+    declaration(
+        alloc,
+        place,
+        DeclForm::Func(Some(params(list)), name, sig, body),
+    )
 }
 
-pub fn type_spec(alloc: Global, name: Name, alias: bool, ty: Expr) -> Result<TypeSpec, NoMemory>
-    ensures value { IfOk result (λ x. (rest : t.TypeSpecs) → type_spec_view x rest ≡ t.MoreTypes name alias (expr_view ty) rest) }
+pub fn value_spec(names: Vec<Name>, ty: Option<Expr>, values: Vec<Expr>) -> ValueSpec
+    ensures value { (rest : t.ValueSpecs) → value_spec_view result rest ≡ t.MoreValues names.items (expr_perhaps ty) (exprs_of (exprs_in values.items)) rest }
 {
-    let ty = boxed(alloc, ty)?;
-    Ok(TypeSpec { name, alias, ty })
+    ValueSpec { names, ty, values }
+}
+
+pub fn type_spec(name: Name, alias: bool, ty: Expr) -> TypeSpec
+    ensures value { (rest : t.TypeSpecs) → type_spec_view result rest ≡ t.MoreTypes name alias (expr_view ty) rest }
+{
+    TypeSpec { name, alias, ty }
 }

@@ -8,6 +8,7 @@ ghost use Rattle.go_frames.specs.FrameView.{frame_view, value_view, stack_view, 
 use crate::at::At;
 use crate::ctx::DEEPEST;
 use crate::frame::{Frame, StmtFrame, Value};
+use crate::node::and;
 use gj_base::{NoMemory, Place};
 use go_syntax::Operator;
 use std::alloc::Global;
@@ -49,8 +50,7 @@ impl Stack {
     pub fn with(self, frame: Frame) -> Result<Stack, NoMemory>
         ensures value { IfOk result (λ s. stack_view s ≡ frame_view frame ∷ stack_view self) }
     {
-        let mut frames = self.frames;
-        frames.push(frame)?;
+        let frames = and(self.frames, frame)?;
         Ok(Stack { frames })
     }
 

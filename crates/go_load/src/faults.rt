@@ -188,7 +188,7 @@ fn declares_main(decls: &[Decl]) -> bool
 fn is_main(decl: &Decl) -> bool
     ensures { result ≡ is_main (decl_view decl.now) }
 {
-    match &decl.form {
+    match &*decl.form {
         DeclForm::Func(None, name, _, _) => name.text.as_bytes() == b"main".as_slice(),
         _ => false,
     }

@@ -73,7 +73,7 @@ fn meets_expr(alloc: Global, at: At, text: &[u8], frame: Frame, e: Expr, stack: 
         Frame::Part(f) => part_meets(alloc, at, f, e, stack),
         Frame::Type(f) => type_meets(alloc, at, f, e, stack),
         Frame::Field(f) => field_meets(alloc, at, text, f, e, stack),
-        Frame::Sig(f) => sig_meets(alloc, at, f, e, stack),
+        Frame::Sig(f) => sig_meets(at, f, e, stack),
         Frame::Stmt(f) => stmt_meets_expr(alloc, at, f, e, stack),
         Frame::Control(f) => control_meets_expr(alloc, at, f, e, stack),
         Frame::Switch(f) => switch_meets_expr(alloc, at, f, e, stack),
@@ -135,8 +135,8 @@ fn meets_sig(alloc: Global, at: At, frame: Frame, sig: Sig, stack: Stack) -> Ans
 {
     match frame {
         Frame::Expr(f) => func_meets(alloc, at, f, sig, stack),
-        Frame::Type(f) => type_sig_meets(f, sig, stack),
-        Frame::Field(f) => method_meets(at, f, sig, stack),
+        Frame::Type(f) => type_sig_meets(alloc, f, sig, stack),
+        Frame::Field(f) => method_meets(alloc, at, f, sig, stack),
         Frame::File(f) => file_meets_sig(alloc, at, f, sig, stack),
         other => stuck_with(other, Value::Sig(sig), stack),
     }
@@ -147,9 +147,9 @@ fn meets_block(alloc: Global, at: At, frame: Frame, block: Block, stack: Stack) 
 {
     match frame {
         Frame::Expr(f) => body_meets(alloc, at, f, block, stack),
-        Frame::Stmt(f) => stmt_meets_block(f, block, stack),
+        Frame::Stmt(f) => stmt_meets_block(alloc, f, block, stack),
         Frame::Control(f) => control_meets_block(alloc, at, f, block, stack),
-        Frame::File(f) => file_meets_block(f, block, stack),
+        Frame::File(f) => file_meets_block(alloc, f, block, stack),
         other => stuck_with(other, Value::Block(block), stack),
     }
 }

@@ -320,18 +320,19 @@ pub fn file_meets_sig(alloc: Global, at: At, frame: FileFrame, sig: Sig, stack: 
 }
 
 /// What a declared function does with its body.
-pub fn file_meets_block(frame: FileFrame, block: Block, stack: Stack) -> Answer
+pub fn file_meets_block(alloc: Global, frame: FileFrame, block: Block, stack: Stack) -> Answer
     ensures value { Comes result (rows.file_meets_block (file_frame frame) (block_view block) (stack_view stack)) }
 {
     match frame {
         FileFrame::FuncBody(place, receiver, name, sig) => over_func(
-            place, receiver, name, sig, block, stack,
+            alloc, place, receiver, name, sig, block, stack,
         ),
         other => stuck_with(Frame::File(other), Value::Block(block), stack),
     }
 }
 
 fn over_func(
+    alloc: Global,
     place: Place,
     receiver: Option<ParamList>,
     name: Name,
@@ -342,11 +343,14 @@ fn over_func(
     ensures value { Comes result (rows.file_meets_block (f.TopBody place (receiver_in receiver) name (sig_view sig)) (block_view block) (stack_view stack)) }
 {
     match receiver {
-        None => over(stack, Value::Decl(func_decl(place, name, sig, block))),
-        Some(list) => over(
-            stack,
-            Value::Decl(method_decl(place, list, name, sig, block)),
-        ),
+        None => match func_decl(alloc, place, name, sig, block) {
+            Ok(d) => over(stack, Value::Decl(d)),
+            Err(error) => lost(error, stack),
+        },
+        Some(list) => match method_decl(alloc, place, list, name, sig, block) {
+            Ok(d) => over(stack, Value::Decl(d)),
+            Err(error) => lost(error, stack),
+        },
     }
 }
 

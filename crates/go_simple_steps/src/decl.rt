@@ -107,20 +107,40 @@ fn with_name(part: ValuesPart, names: Vec<Name>, name: Name, stack: Stack) -> An
     }
 }
 
-fn value_decl(part: ValuesPart) -> Decl
-    ensures value { decl_view result ≡ rows.value_decl (values_part part) }
+fn value_decl(alloc: Global, part: ValuesPart) -> Result<Decl, NoMemory>
+    ensures value { IfOk result (λ d. decl_view d ≡ rows.value_decl (values_part part)) }
 {
     if part.constant {
-        return const_decl(part.place, part.specs);
+        return const_decl(alloc, part.place, part.specs);
     }
-    var_decl(part.place, part.specs)
+    var_decl(alloc, part.place, part.specs)
+}
+
+/// The `)` of a group of constants or variables.
+fn done_values(alloc: Global, part: ValuesPart, stack: Stack) -> Answer
+    ensures value { Comes result (f.Goes (f.Done (f.ADecl (rows.value_decl (values_part part))) ∷ stack_view stack)) }
+{
+    match value_decl(alloc, part) {
+        Ok(d) => done(stack, Value::Decl(d)),
+        Err(error) => lost(error, stack),
+    }
+}
+
+/// Constants or variables that are over before the token.
+fn over_values(alloc: Global, part: ValuesPart, stack: Stack) -> Answer
+    ensures value { Comes result (f.Over (f.ADecl (rows.value_decl (values_part part))) (stack_view stack)) }
+{
+    match value_decl(alloc, part) {
+        Ok(d) => over(stack, Value::Decl(d)),
+        Err(error) => lost(error, stack),
+    }
 }
 
 fn value_group(alloc: Global, at: At, text: &[u8], part: ValuesPart, stack: Stack) -> Answer
     ensures value { Comes result (rows.decl_row (token_of at text.now) (f.ValueGroup (values_part part)) (stack_view stack)) }
 {
     if at.is(Operator::RightParen) {
-        return done(stack, Value::Decl(value_decl(part)));
+        return done_values(alloc, part, stack);
     }
     first_name(alloc, at, text, part, stack)
 }
@@ -167,7 +187,7 @@ fn end_spec(
 ) -> Answer
     ensures value { Comes result (rows.end_value (token_of at []) (values_part part) names.items (expr_perhaps ty) (exprs_in values.items) (stack_view stack)) }
 {
-    match with_values(alloc, part.specs, names, ty, values) {
+    match with_values(part.specs, names, ty, values) {
         Ok(specs) => {
             let part = ValuesPart {
                 blocks: part.blocks,
@@ -176,24 +196,24 @@ fn end_spec(
                 group: part.group,
                 specs,
             };
-            after_spec(at, part, stack)
+            after_spec(alloc, at, part, stack)
         }
         Err(error) => lost(error, stack),
     }
 }
 
 /// After a Spec of constants or variables.
-fn after_spec(at: At, part: ValuesPart, stack: Stack) -> Answer
+fn after_spec(alloc: Global, at: At, part: ValuesPart, stack: Stack) -> Answer
     ensures value { Comes result (after_spec (token_of at []) (values_part part) (stack_view stack)) }
 {
     if !part.group {
-        return over(stack, Value::Decl(value_decl(part)));
+        return over_values(alloc, part, stack);
     }
     if at.is_semicolon() {
         return goes(stack, Frame::Decl(DeclFrame::ValueGroup(part)));
     }
     if at.is(Operator::RightParen) {
-        return done(stack, Value::Decl(value_decl(part)));
+        return done_values(alloc, part, stack);
     }
     stuck_at(Frame::Decl(DeclFrame::ValueGroup(part)), stack)
 }
@@ -226,17 +246,37 @@ fn declared_name(alloc: Global, at: At, text: &[u8], part: TypesPart, stack: Sta
     }
 }
 
-fn types_decl(part: TypesPart) -> Decl
-    ensures value { decl_view result ≡ rows.type_decl (types_part part) }
+fn types_decl(alloc: Global, part: TypesPart) -> Result<Decl, NoMemory>
+    ensures value { IfOk result (λ d. decl_view d ≡ rows.type_decl (types_part part)) }
 {
-    type_decl(part.place, part.specs)
+    type_decl(alloc, part.place, part.specs)
+}
+
+/// The `)` of a group of types.
+fn done_types(alloc: Global, part: TypesPart, stack: Stack) -> Answer
+    ensures value { Comes result (f.Goes (f.Done (f.ADecl (rows.type_decl (types_part part))) ∷ stack_view stack)) }
+{
+    match types_decl(alloc, part) {
+        Ok(d) => done(stack, Value::Decl(d)),
+        Err(error) => lost(error, stack),
+    }
+}
+
+/// A type that is over before the token.
+fn over_types(alloc: Global, part: TypesPart, stack: Stack) -> Answer
+    ensures value { Comes result (f.Over (f.ADecl (rows.type_decl (types_part part))) (stack_view stack)) }
+{
+    match types_decl(alloc, part) {
+        Ok(d) => over(stack, Value::Decl(d)),
+        Err(error) => lost(error, stack),
+    }
 }
 
 fn type_group(alloc: Global, at: At, text: &[u8], part: TypesPart, stack: Stack) -> Answer
     ensures value { Comes result (rows.decl_row (token_of at text.now) (f.TypeGroup (types_part part)) (stack_view stack)) }
 {
     if at.is(Operator::RightParen) {
-        return done(stack, Value::Decl(types_decl(part)));
+        return done_types(alloc, part, stack);
     }
     declared_name(alloc, at, text, part, stack)
 }
@@ -271,7 +311,7 @@ fn end_type(
 ) -> Answer
     ensures value { Comes result (rows.end_type (token_of at []) (types_part part) name alias (expr_view ty) (stack_view stack)) }
 {
-    match with_type(alloc, part.specs, name, alias, ty) {
+    match with_type(part.specs, name, alias, ty) {
         Ok(specs) => {
             let part = TypesPart {
                 blocks: part.blocks,
@@ -279,24 +319,24 @@ fn end_type(
                 group: part.group,
                 specs,
             };
-            after_type(at, part, stack)
+            after_type(alloc, at, part, stack)
         }
         Err(error) => lost(error, stack),
     }
 }
 
 /// After a Spec of a type.
-fn after_type(at: At, part: TypesPart, stack: Stack) -> Answer
+fn after_type(alloc: Global, at: At, part: TypesPart, stack: Stack) -> Answer
     ensures value { Comes result (after_type (token_of at []) (types_part part) (stack_view stack)) }
 {
     if !part.group {
-        return over(stack, Value::Decl(types_decl(part)));
+        return over_types(alloc, part, stack);
     }
     if at.is_semicolon() {
         return goes(stack, Frame::Decl(DeclFrame::TypeGroup(part)));
     }
     if at.is(Operator::RightParen) {
-        return done(stack, Value::Decl(types_decl(part)));
+        return done_types(alloc, part, stack);
     }
     stuck_at(Frame::Decl(DeclFrame::TypeGroup(part)), stack)
 }

@@ -50,7 +50,7 @@ pub fn after_left(alloc: Global, at: At, spot: Spot, es: Vec<Expr>, e: Expr, sta
     ensures value { Comes result (rows.after_left (token_of at []) (spot_view spot) (exprs_in es.items) (expr_view e) (stack_view stack)) }
 {
     if is_tag(spot.mode) {
-        return after_tag(at, spot, es, e, stack);
+        return after_tag(alloc, at, spot, es, e, stack);
     }
     match with_expr(es, e) {
         Ok(es) => after_listed(alloc, at, spot, es, stack),
@@ -74,7 +74,7 @@ fn after_listed(alloc: Global, at: At, spot: Spot, es: Vec<Expr>, stack: Stack) 
     }
     match assign_of(at.kind) {
         Some(op) => assigns(alloc, spot, es, op, stack),
-        None => after_all(at, spot, es, stack),
+        None => after_all(alloc, at, spot, es, stack),
     }
 }
 
@@ -87,27 +87,37 @@ fn assigns(alloc: Global, spot: Spot, es: Vec<Expr>, op: Op, stack: Stack) -> An
 }
 
 /// After the expression of a header of a `switch` that follows its `;`: `name :=` or nothing.
-fn after_tag(at: At, spot: Spot, es: Vec<Expr>, e: Expr, stack: Stack) -> Answer
+fn after_tag(alloc: Global, at: At, spot: Spot, es: Vec<Expr>, e: Expr, stack: Stack) -> Answer
     ensures value { Comes result (after_tag (token_of at []) (spot_view spot) (exprs_in es.items) (expr_view e) (stack_view stack)) }
 {
     let named = is_name(&e);
     match with_expr(es, e) {
-        Ok(es) => end_tag(at, spot, es, named, stack),
+        Ok(es) => end_tag(alloc, at, spot, es, named, stack),
         Err(error) => lost(error, stack),
     }
 }
 
-fn end_tag(at: At, spot: Spot, es: Vec<Expr>, named: bool, stack: Stack) -> Answer
+fn end_tag(alloc: Global, at: At, spot: Spot, es: Vec<Expr>, named: bool, stack: Stack) -> Answer
     ensures value { Comes result (end_tag (token_of at []) (spot_view spot) (exprs_in es.items) named (stack_view stack)) }
 {
     if at.is(Operator::Define) && named {
         return goes(stack, Frame::Stmt(StmtFrame::Right(spot, es, true)));
     }
-    over(stack, Value::Stmt(exprs_stmt(spot.place, es)))
+    over_exprs(alloc, spot, es, stack)
+}
+
+/// A statement of expressions alone.
+fn over_exprs(alloc: Global, spot: Spot, es: Vec<Expr>, stack: Stack) -> Answer
+    ensures value { Comes result (f.Over (f.AStmt (t.ExprStmt spot.place (exprs_of (exprs_in es.items)))) (stack_view stack)) }
+{
+    match exprs_stmt(alloc, spot.place, es) {
+        Ok(s) => over(stack, Value::Stmt(s)),
+        Err(error) => lost(error, stack),
+    }
 }
 
 /// After the last expression on the left: `<-`, `++`, `--`, `:` after a name alone, or nothing.
-fn after_all(at: At, spot: Spot, es: Vec<Expr>, stack: Stack) -> Answer
+fn after_all(alloc: Global, at: At, spot: Spot, es: Vec<Expr>, stack: Stack) -> Answer
     ensures value { Comes result (rows.after_all (token_of at []) (spot_view spot) (exprs_in es.items) (stack_view stack)) }
 {
     if at.is(Operator::Arrow) {
@@ -115,13 +125,15 @@ fn after_all(at: At, spot: Spot, es: Vec<Expr>, stack: Stack) -> Answer
         return then_expr(spot.ctx, stack);
     }
     if at.is(Operator::Increment) || at.is(Operator::Decrement) {
-        let s = increment(spot.place, es, at.is(Operator::Increment));
-        return done(stack, Value::Stmt(s));
+        return match increment(alloc, spot.place, es, at.is(Operator::Increment)) {
+            Ok(s) => done(stack, Value::Stmt(s)),
+            Err(error) => lost(error, stack),
+        };
     }
     if at.is(Operator::Colon) && is_statement(spot.mode) && is_label(&es) {
         return after_name(spot, es, stack);
     }
-    over(stack, Value::Stmt(exprs_stmt(spot.place, es)))
+    over_exprs(alloc, spot, es, stack)
 }
 
 /// A label's `:`.
@@ -230,6 +242,7 @@ fn may_guard(mode: Mode, left: &Vec<Expr>) -> bool
 
 /// After an expression on the right of `=` or `op=`.
 pub fn after_assigned(
+    alloc: Global,
     at: At,
     spot: Spot,
     left: Vec<Expr>,
@@ -241,12 +254,13 @@ pub fn after_assigned(
     ensures value { Comes result (rows.stmt_meets_expr (token_of at []) (f.Assigned (spot_view spot) (exprs_in left.items) op (exprs_in right.items)) (expr_view e) (stack_view stack)) }
 {
     match with_expr(right, e) {
-        Ok(right) => end_assigned(at, spot, left, op, right, stack),
+        Ok(right) => end_assigned(alloc, at, spot, left, op, right, stack),
         Err(error) => lost_at(error, Frame::Stmt(StmtFrame::Simple(spot, left)), stack),
     }
 }
 
 fn end_assigned(
+    alloc: Global,
     at: At,
     spot: Spot,
     left: Vec<Expr>,
@@ -260,11 +274,15 @@ fn end_assigned(
         let stack = stack.with(Frame::Stmt(StmtFrame::Assign(spot, left, op, right)))?;
         return then_expr(spot.ctx, stack);
     }
-    over(stack, Value::Stmt(assign(spot.place, left, op, right)))
+    match assign(alloc, spot.place, left, op, right) {
+        Ok(s) => over(stack, Value::Stmt(s)),
+        Err(error) => lost(error, stack),
+    }
 }
 
 /// After an expression on the right of `:=`.
 pub fn after_defined(
+    alloc: Global,
     at: At,
     spot: Spot,
     left: Vec<Expr>,
@@ -282,19 +300,29 @@ pub fn after_defined(
         );
     }
     match with_expr(right, e) {
-        Ok(right) => end_defined(at, spot, left, right, stack),
+        Ok(right) => end_defined(alloc, at, spot, left, right, stack),
         Err(error) => lost_at(error, Frame::Stmt(StmtFrame::Simple(spot, left)), stack),
     }
 }
 
-fn end_defined(at: At, spot: Spot, left: Vec<Expr>, right: Vec<Expr>, stack: Stack) -> Answer
+fn end_defined(
+    alloc: Global,
+    at: At,
+    spot: Spot,
+    left: Vec<Expr>,
+    right: Vec<Expr>,
+    stack: Stack,
+) -> Answer
     ensures value { Comes result (end_defined (token_of at []) (spot_view spot) (exprs_in left.items) (exprs_in right.items) (stack_view stack)) }
 {
     if at.is(Operator::Comma) {
         let stack = stack.with(Frame::Stmt(StmtFrame::Define(spot, left, right)))?;
         return then_expr(spot.ctx, stack);
     }
-    over(stack, Value::Stmt(define(spot.place, left, right)))
+    match define(alloc, spot.place, left, right) {
+        Ok(s) => over(stack, Value::Stmt(s)),
+        Err(error) => lost(error, stack),
+    }
 }
 
 /// After the value that is sent.

@@ -4,7 +4,7 @@ ghost use Rattle.std.specs.Prelude.{[]};
 ghost use Rattle.go_syntax.specs.Tree as t;
 ghost use Rattle.go_grammar.specs.Frames as f;
 ghost use Rattle.go_grammar.specs.StmtSteps as rows;
-ghost use Rattle.go_syntax.specs.View.{expr_view, block_view, stmt_view, decl_view};
+ghost use Rattle.go_syntax.specs.View.{expr_view, block_view, stmt_view, decl_view, exprs_of};
 ghost use Rattle.go_frames.specs.FrameView.{Comes, token_of, exprs_in, stmts_in, stmt_frame, stack_view};
 ghost use Rattle.go_stmt_steps.specs.Parts.{end_return};
 
@@ -93,7 +93,7 @@ fn after_return(
         let stack = stack.with(Frame::Stmt(frame))?;
         return begin_expr(alloc, at, text, Ctx::new(blocks), stack);
     }
-    over(stack, Value::Stmt(return_stmt(place, Vec::new(alloc))))
+    over_return(alloc, place, Vec::new(alloc), stack)
 }
 
 fn after_break(
@@ -107,10 +107,17 @@ fn after_break(
     ensures value { Comes result (rows.stmt_row (token_of at text.now) (f.AtBreak place is_break) (stack_view stack)) }
 {
     if !at.is_name() {
-        return over(stack, Value::Stmt(break_to(place, is_break, None)));
+        return match break_to(alloc, place, is_break, None) {
+            Ok(s) => over(stack, Value::Stmt(s)),
+            Err(error) => lost(error, stack),
+        };
     }
-    match name(alloc, at.place, text) {
-        Ok(name) => done(stack, Value::Stmt(break_to(place, is_break, Some(name)))),
+    let name = match name(alloc, at.place, text) {
+        Ok(name) => name,
+        Err(error) => return lost(error, stack),
+    };
+    match break_to(alloc, place, is_break, Some(name)) {
+        Ok(s) => done(stack, Value::Stmt(s)),
         Err(error) => lost(error, stack),
     }
 }
@@ -121,7 +128,10 @@ fn after_label(alloc: Global, at: At, text: &[u8], blocks: u32, labels: u32, sta
     if begins_stmt(at) {
         return begin_stmt(alloc, at, text, blocks, labels, stack);
     }
-    over(stack, Value::Stmt(empty(at.place)))
+    match empty(alloc, at.place) {
+        Ok(s) => over(stack, Value::Stmt(s)),
+        Err(error) => lost(error, stack),
+    }
 }
 
 /// What a frame that waits for an expression does with it at the token.
@@ -131,12 +141,14 @@ pub fn stmt_meets_expr(alloc: Global, at: At, frame: StmtFrame, e: Expr, stack: 
     match frame {
         StmtFrame::Go(place) => after_go(alloc, place, e, stack),
         StmtFrame::Defer(place) => after_defer(alloc, place, e, stack),
-        StmtFrame::Returned(blocks, place, es) => returned(at, blocks, place, es, e, stack),
+        StmtFrame::Returned(blocks, place, es) => returned(alloc, at, blocks, place, es, e, stack),
         StmtFrame::Simple(spot, es) => after_left(alloc, at, spot, es, e, stack),
         StmtFrame::Assign(spot, left, op, right) => after_assigned(
-            at, spot, left, op, right, e, stack,
+            alloc, at, spot, left, op, right, e, stack,
         ),
-        StmtFrame::Define(spot, left, right) => after_defined(at, spot, left, right, e, stack),
+        StmtFrame::Define(spot, left, right) => after_defined(
+            alloc, at, spot, left, right, e, stack,
+        ),
         StmtFrame::Send(place, cs) => after_sent(alloc, place, cs, e, stack),
         other => stuck_with(Frame::Stmt(other), Value::Expr(e), stack),
     }
@@ -160,23 +172,48 @@ fn after_defer(alloc: Global, place: Place, e: Expr, stack: Stack) -> Answer
     }
 }
 
-fn returned(at: At, blocks: u32, place: Place, es: Vec<Expr>, e: Expr, stack: Stack) -> Answer
+fn returned(
+    alloc: Global,
+    at: At,
+    blocks: u32,
+    place: Place,
+    es: Vec<Expr>,
+    e: Expr,
+    stack: Stack,
+) -> Answer
     ensures value { Comes result (rows.stmt_meets_expr (token_of at []) (f.Returned blocks place (exprs_in es.items)) (expr_view e) (stack_view stack)) }
 {
     match with_expr(es, e) {
-        Ok(es) => end_return(at, blocks, place, es, stack),
+        Ok(es) => end_return(alloc, at, blocks, place, es, stack),
         Err(error) => lost(error, stack),
     }
 }
 
-fn end_return(at: At, blocks: u32, place: Place, es: Vec<Expr>, stack: Stack) -> Answer
+/// `return` with these values.
+fn over_return(alloc: Global, place: Place, es: Vec<Expr>, stack: Stack) -> Answer
+    ensures value { Comes result (f.Over (f.AStmt (t.ReturnStmt place (exprs_of (exprs_in es.items)))) (stack_view stack)) }
+{
+    match return_stmt(alloc, place, es) {
+        Ok(s) => over(stack, Value::Stmt(s)),
+        Err(error) => lost(error, stack),
+    }
+}
+
+fn end_return(
+    alloc: Global,
+    at: At,
+    blocks: u32,
+    place: Place,
+    es: Vec<Expr>,
+    stack: Stack,
+) -> Answer
     ensures value { Comes result (end_return (token_of at []) blocks place (exprs_in es.items) (stack_view stack)) }
 {
     if at.is(Operator::Comma) {
         let stack = stack.with(Frame::Stmt(StmtFrame::Returned(blocks, place, es)))?;
         return then_expr(Ctx::new(blocks), stack);
     }
-    over(stack, Value::Stmt(return_stmt(place, es)))
+    over_return(alloc, place, es, stack)
 }
 
 /// What a frame that waits for a statement does with it at the token.
@@ -209,12 +246,22 @@ fn after_labeled(alloc: Global, name: Name, s: Stmt, stack: Stack) -> Answer
     }
 }
 
+/// A block that is a statement.
+fn over_block(alloc: Global, block: Block, stack: Stack) -> Answer
+    ensures value { Comes result (rows.stmt_meets_block f.Inner (block_view block) (stack_view stack)) }
+{
+    match block_stmt(alloc, block) {
+        Ok(s) => over(stack, Value::Stmt(s)),
+        Err(error) => lost(error, stack),
+    }
+}
+
 /// What a frame that waits for a block does with it.
-pub fn stmt_meets_block(frame: StmtFrame, block: Block, stack: Stack) -> Answer
+pub fn stmt_meets_block(alloc: Global, frame: StmtFrame, block: Block, stack: Stack) -> Answer
     ensures value { Comes result (rows.stmt_meets_block (stmt_frame frame) (block_view block) (stack_view stack)) }
 {
     match frame {
-        StmtFrame::Inner => over(stack, Value::Stmt(block_stmt(block))),
+        StmtFrame::Inner => over_block(alloc, block, stack),
         other => stuck_with(Frame::Stmt(other), Value::Block(block), stack),
     }
 }

@@ -7,10 +7,10 @@
 
 pub mod keyword;
 pub mod kind;
+pub mod node;
 pub mod operator;
 pub mod token;
 pub mod tree;
-pub mod views;
 
 pub use keyword::Keyword;
 pub use kind::TokenKind;

@@ -1,7 +1,7 @@
 //! One happy path of each public call.
 
-use crate::tree::{Expr, ExprForm, Params, Results, Sig};
-use crate::{Keyword, Operator, TokenKind, Tokens, views};
+use crate::tree::{DeclForm, ExprForm, StmtForm};
+use crate::{Keyword, Operator, TokenKind, Tokens, node};
 use gj_base::{Place, Text};
 use std::test::Fail;
 
@@ -48,22 +48,15 @@ fn tokens(rt: HostRuntime) -> Result<(), Fail> {
 
 #[test]
 fn nodes(rt: HostRuntime) -> Result<(), Fail> {
-    let x = Expr {
-        place: START,
-        form: ExprForm::Name(Text::from_slice(rt.alloc(), b"x")?),
-    };
-    let call = views::call(rt.alloc(), START, x, Vec::new(rt.alloc()), false)?;
-    let paren = views::paren(rt.alloc(), START, call)?;
+    let alloc = rt.alloc();
+    let x = node::expression(alloc, START, ExprForm::Name(Text::from_slice(alloc, b"x")?))?;
+    let paren = node::expression(alloc, START, ExprForm::Paren(x))?;
     assert_eq!(rt; paren.place, START);
-    let sig = Sig {
-        params: Params {
-            place: START,
-            items: Vec::new(rt.alloc()),
-        },
-        results: Results::None,
-    };
-    let block = views::block(START, Vec::new(rt.alloc()), START);
-    let function = views::function(START, sig, block);
-    assert_eq!(rt; function.place, START);
+    let mut items = Vec::new(alloc);
+    items.push(paren)?;
+    let stmt = node::statement(alloc, START, StmtForm::Expr(items))?;
+    assert_eq!(rt; stmt.place, START);
+    let decl = node::declaration(alloc, START, DeclForm::Var(Vec::new(alloc)))?;
+    assert_eq!(rt; decl.place, START);
     Ok(())
 }

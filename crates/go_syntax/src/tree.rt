@@ -1,6 +1,9 @@
 //! Trees of the grammar: a form for each production, with the production's parts in order.
 //!
 //! Each node has the place of its first token, and each name its own place. Types are expressions.
+//!
+//! An expression, a statement and a declaration are a place and a box with the form. So each takes little
+//! room where it stands, and what holds several is moved as a few words.
 
 use gj_base::{Op, Place, Text};
 
@@ -46,7 +49,7 @@ pub enum ChanDir {
 #[derive(Drop)]
 pub struct Expr {
     pub place: Place,
-    pub form: ExprForm,
+    pub form: Box<ExprForm>,
 }
 
 #[cycle(tree)]
@@ -61,29 +64,29 @@ pub enum ExprForm {
     /// `"text"`: the value's bytes
     Str(Text),
     /// `(x)`
-    Paren(Box<Expr>),
+    Paren(Expr),
     /// `-x`; a pointer type is `*T`
-    Unary(Prefix, Box<Expr>),
+    Unary(Prefix, Expr),
     /// `x + y`
-    Binary(Box<Expr>, Op, Box<Expr>),
+    Binary(Expr, Op, Expr),
     /// `x.name`, also of a package and a name in it
-    Select(Box<Expr>, Name),
+    Select(Expr, Name),
     /// `x[i]`
-    Index(Box<Expr>, Box<Expr>),
+    Index(Expr, Expr),
     /// `x[low:high:max]`
-    Slice(Box<Expr>, Option<Box<Expr>>, Option<Box<Expr>>, Option<Box<Expr>>),
+    Slice(Expr, Option<Expr>, Option<Expr>, Option<Expr>),
     /// `x.(T)`
-    Assert(Box<Expr>, Box<Expr>),
+    Assert(Expr, Expr),
     /// `f(x, y)`; the last part says whether `...` follows the last argument
-    Call(Box<Expr>, Vec<Expr>, bool),
+    Call(Expr, Vec<Expr>, bool),
     /// `T{k: v}`; an inner literal may have no type
-    Literal(Option<Box<Expr>>, Vec<Elem>),
+    Literal(Option<Expr>, Vec<Elem>),
     /// `func(x T) T {}`
     Func(Sig, Block),
     /// `[n]T`; no length for `[...]T`
-    ArrayT(Option<Box<Expr>>, Box<Expr>),
+    ArrayT(Option<Expr>, Expr),
     /// `[]T`
-    SliceT(Box<Expr>),
+    SliceT(Expr),
     /// `struct { x T }`
     StructT(Vec<Field>),
     /// `func(T) T`
@@ -91,17 +94,17 @@ pub enum ExprForm {
     /// `interface { m() }`
     InterfaceT(Vec<Member>),
     /// `map[K]T`
-    MapT(Box<Expr>, Box<Expr>),
+    MapT(Expr, Expr),
     /// `chan T`
-    ChanT(ChanDir, Box<Expr>),
+    ChanT(ChanDir, Expr),
 }
 
 /// `key: value` or `value`, in a literal.
 #[cycle(tree)]
 #[derive(Drop)]
 pub struct Elem {
-    pub key: Option<Box<Expr>>,
-    pub value: Box<Expr>,
+    pub key: Option<Expr>,
+    pub value: Expr,
 }
 
 /// Parameters and results.
@@ -117,7 +120,7 @@ pub struct Sig {
 pub enum Results {
     None,
     /// one type, without parentheses
-    Type(Box<Expr>),
+    Type(Expr),
     List(Params),
 }
 
@@ -138,7 +141,7 @@ pub struct Param {
     pub place: Place,
     pub name: Option<Name>,
     pub variadic: bool,
-    pub ty: Box<Expr>,
+    pub ty: Expr,
 }
 
 /// A field, or fields of one type, of a struct type, with the tag's bytes where there is one.
@@ -146,10 +149,10 @@ pub struct Param {
 #[derive(Drop)]
 pub enum Field {
     /// `x, y T`
-    Named(Vec<Name>, Box<Expr>, Option<Text>),
+    Named(Vec<Name>, Expr, Option<Text>),
     /// `T`, `*T`, `p.T` or `*p.T`, by the place of its first token, whether there is a `*`, and the
     /// name without it
-    Embedded(Place, bool, Box<Expr>, Option<Text>),
+    Embedded(Place, bool, Expr, Option<Text>),
 }
 
 /// A method or an embedded type of an interface type.
@@ -159,7 +162,7 @@ pub enum Member {
     /// `name(T) T`
     Method(Name, Sig),
     /// `T` or `p.T`
-    Embedded(Box<Expr>),
+    Embedded(Expr),
 }
 
 /// `{ .. }`, with the place of `{` and, as `end`, that of `}`.
@@ -176,7 +179,7 @@ pub struct Block {
 #[derive(Drop)]
 pub struct Stmt {
     pub place: Place,
-    pub form: StmtForm,
+    pub form: Box<StmtForm>,
 }
 
 #[cycle(tree)]
@@ -188,7 +191,7 @@ pub enum StmtForm {
     /// types stage refuses
     Expr(Vec<Expr>),
     /// `x <- y`
-    Send(Vec<Expr>, Box<Expr>),
+    Send(Vec<Expr>, Expr),
     /// `x++`, or `x--` where the second part is false
     IncDec(Vec<Expr>, bool),
     /// `x, y = z, w`, or `x += y` with its operator
@@ -196,26 +199,26 @@ pub enum StmtForm {
     /// `x, y := z, w`
     Define(Vec<Expr>, Vec<Expr>),
     /// `var x T`
-    Decl(Box<Decl>),
+    Decl(Decl),
     /// `{ .. }`
     Block(Block),
     /// `if init; x { .. } else { .. }`; the last part is an `if` or a block
-    If(Option<Box<Stmt>>, Box<Expr>, Block, Option<Box<Stmt>>),
+    If(Option<Stmt>, Expr, Block, Option<Stmt>),
     /// `for init; x; post { .. }`
-    For(Option<Box<Stmt>>, Option<Box<Expr>>, Option<Box<Stmt>>, Block),
+    For(Option<Stmt>, Option<Expr>, Option<Stmt>, Block),
     /// `for x, y = range z { .. }`; the second part says whether it is `:=`, and is false where
     /// nothing stands before `range`
-    Range(Vec<Expr>, bool, Box<Expr>, Block),
+    Range(Vec<Expr>, bool, Expr, Block),
     /// `switch init; x { .. }`
-    Switch(Option<Box<Stmt>>, Option<Box<Expr>>, Vec<Clause>),
+    Switch(Option<Stmt>, Option<Expr>, Vec<Clause>),
     /// `switch init; x := y.(type) { .. }`
-    TypeSwitch(Option<Box<Stmt>>, Option<Name>, Box<Expr>, Vec<Clause>),
+    TypeSwitch(Option<Stmt>, Option<Name>, Expr, Vec<Clause>),
     /// `select { .. }`
     Select(Vec<Comm>),
     /// `go f(x)`
-    Go(Box<Expr>),
+    Go(Expr),
     /// `defer f(x)`
-    Defer(Box<Expr>),
+    Defer(Expr),
     /// `return x, y`
     Return(Vec<Expr>),
     /// `break label`
@@ -225,7 +228,7 @@ pub enum StmtForm {
     /// `fallthrough`
     Fallthrough,
     /// `label: x`
-    Labeled(Name, Box<Stmt>),
+    Labeled(Name, Stmt),
 }
 
 /// `case x, y: ..` of a switch, or `default: ..` where there are no expressions.
@@ -242,7 +245,7 @@ pub struct Clause {
 #[derive(Drop)]
 pub struct Comm {
     pub place: Place,
-    pub stmt: Option<Box<Stmt>>,
+    pub stmt: Option<Stmt>,
     pub body: Vec<Stmt>,
 }
 
@@ -251,7 +254,7 @@ pub struct Comm {
 #[derive(Drop)]
 pub struct Decl {
     pub place: Place,
-    pub form: DeclForm,
+    pub form: Box<DeclForm>,
 }
 
 #[cycle(tree)]
@@ -272,7 +275,7 @@ pub enum DeclForm {
 #[derive(Drop)]
 pub struct ValueSpec {
     pub names: Vec<Name>,
-    pub ty: Option<Box<Expr>>,
+    pub ty: Option<Expr>,
     pub values: Vec<Expr>,
 }
 
@@ -282,7 +285,7 @@ pub struct ValueSpec {
 pub struct TypeSpec {
     pub name: Name,
     pub alias: bool,
-    pub ty: Box<Expr>,
+    pub ty: Expr,
 }
 
 /// `name "path"`: the place of its first token, its name, and the path with its place.

@@ -6,5 +6,5 @@ use Rattle.go_field_steps.proofs.field.with_field.Goals as goal
 pub returns : goal.returns
 returns c = record {
   value =
-      and_field (struct_part c.args.part) c.args.part.fields.items c.in_ok-fields.fields.items c.in-Ok.field (untagged_view c.args.field) c.args.tag refl c.in_ok-fields.ensures.value c.in-Ok.ensures.value;
+      and_field (struct_part c.args.part) c.args.part.fields.items c.in_ok-fields.fields.items c.tagged-field.result (untagged_view c.args.field) c.args.tag refl c.in_ok-fields.ensures.value c.tagged-field.ensures.value;
 }

@@ -11,6 +11,6 @@ returns c = record {
   value =
       let part = interface_part c.args.part in
       c.in_ok-part.ensures.value
-      ∙ member_is part c.in-Ok.item (λ rest. t.EmbeddedMember (expr_view c.name_expr.result) rest) c.in-Ok.ensures.value
-      ∙ ap (λ (e : t.Expr). steps.with_member part (λ rest. t.EmbeddedMember e rest)) c.name_expr.ensures.value;
+      ∙ member_is part c.embedded_member.result (λ rest. t.EmbeddedMember (expr_view c.in-Ok.ty) rest) c.embedded_member.ensures.value
+      ∙ ap (λ (e : t.Expr). steps.with_member part (λ rest. t.EmbeddedMember e rest)) c.in-Ok.ensures.value;
 }

@@ -10,5 +10,5 @@ pub returns : goal.returns
 returns c = record {
   value =
       ap (λ (items : f.Params). record (params_part c.args.part) { items = items })
-      (ap (map param_view) c.in-Ok-and_param.ensures.value ∙ and_view param_view c.args.part.items.items c.in-Ok.item (λ (rest : t.Params). t.MoreParams c.args.place c.args.name c.args.variadic (expr_view c.args.ty) rest) c.in-Ok.ensures.value);
+      (ap (map param_view) c.in-Ok.ensures.value ∙ and_view param_view c.args.part.items.items c.param-item.result (λ (rest : t.Params). t.MoreParams c.args.place c.args.name c.args.variadic (expr_view c.args.ty) rest) c.param-item.ensures.value);
 }
