@@ -6,6 +6,8 @@ mod layouts;
 #[cfg(test)]
 mod operators;
 #[cfg(test)]
+mod state;
+#[cfg(test)]
 mod tasks;
 #[cfg(test)]
 mod values;

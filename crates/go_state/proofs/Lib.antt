@@ -1,0 +1,6 @@
+pub mod StmtViews
+pub mod StackLemmas
+pub mod TodoLemmas
+pub mod PassedLemmas
+pub mod BranchLemmas
+pub mod MovedLemmas
