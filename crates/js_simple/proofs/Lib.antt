@@ -1,0 +1,6 @@
+pub mod Follows
+pub mod Forms
+pub mod Lists
+pub mod Marked
+pub mod Names
+pub mod Parts

@@ -1,0 +1,10 @@
+-- Own: lists of expressions in the code, cell by cell.
+use Rattle.std.specs.Prelude.{List, Option, Some, None}
+use Rattle.js_tree.specs.Script.{Exprs, no_exprs, expr}
+use Rattle.js_code.specs.Parts.{Tree, expr_at, exprs_at}
+use Rattle.js_simple.specs.declared.list.Cell.{Cell}
+
+-- the expressions that a list goes on with
+abbrev pub exprs_of : List Tree → Option Cell → Exprs
+exprs_of trees (Some cell) = expr (expr_at trees cell.first) (exprs_at trees cell.rest)
+exprs_of trees None = no_exprs

@@ -1,0 +1,4 @@
+pub mod Simple
+pub mod Seen
+pub mod PartDoes
+pub mod Cells

@@ -1,0 +1,36 @@
+//! Lists of expressions in the code, one cell after the other.
+
+ghost use Rattle.std.specs.Prelude.{◌≡◌, List, Some};
+ghost use Rattle.js_code.specs.Held.{part_of};
+ghost use Rattle.js_code.specs.Parts.{Tree, as_exprs, exprs_at, tree_of, trees_of};
+ghost use Rattle.js_simple.specs.Simple.{IsSomeCode};
+ghost use Rattle.js_simple.specs.Cells.{exprs_of};
+
+use js_code::{Code, Part};
+
+/// The first expression of a list, and the list of those after it.
+#[derive(Clone, Copy)]
+pub struct Cell {
+    pub first: u32,
+    pub rest: u32,
+}
+
+// The cell that a part is.
+fn cell_of(part: Part) -> Option<Cell>
+    ensures value { (ts : List Tree) → as_exprs (Some (tree_of ts (part_of part.entry))) ≡ exprs_of ts result }
+{
+    match part {
+        Part::More { first, rest } => Some(Cell { first, rest }),
+        _ => None,
+    }
+}
+
+/// The cell with which the list goes on that a part of the code stands for.
+pub fn cell_at(code: &Code, i: u32) -> Option<Cell>
+    ensures value { IsSomeCode code.now → exprs_at (trees_of code.now) i ≡ exprs_of (trees_of code.now) result }
+{
+    match code.get(i) {
+        Some(part) => cell_of(part),
+        None => None,
+    }
+}
