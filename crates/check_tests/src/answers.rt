@@ -15,7 +15,7 @@ use go_answers::passed::{passed_at, settled_alone, settled_as};
 use go_answers::pending::{pending_at, pending_flaws};
 use go_answers::rule::{and_flaw, bad, is_known, made, unless};
 use go_const::{Const, ConstRefusal};
-use go_core::node::CoreExpr;
+use go_core::node::{CoreExpr, CoreForm};
 use go_nodes::gone::gone_expr;
 use go_nodes::leaf;
 use go_type::TypeTable;
@@ -134,7 +134,7 @@ fn untyped_values_have_default_types(rt: HostRuntime) -> Result<(), Fail> {
     assert_eq!(rt; letter, Told::Int(RUNE, 97));
     let large = alone(alloc, &table, Operand::Constant(Const::Int(1099511627776)))?;
     assert_eq!(rt; large, Told::Code(32));
-    let truth = alone(alloc, &table, Operand::Truth(leaf::zero(BOOL)))?;
+    let truth = alone(alloc, &table, Operand::Truth(leaf::zero(alloc, BOOL)?))?;
     assert_eq!(rt; truth, Told::Other(BOOL));
     let nil = alone(alloc, &table, Operand::Nil)?;
     assert_eq!(rt; nil, Told::Code(73));
@@ -152,7 +152,7 @@ fn constants_are_of_the_types_that_hold_them(rt: HostRuntime) -> Result<(), Fail
     let truth = as_one_of(alloc, &table, INT, Operand::Constant(Const::Bool(true)))?;
     assert_eq!(rt; truth, Told::Code(61));
     let found = Found {
-        core: leaf::zero(INT),
+        core: leaf::zero(alloc, INT)?,
         ty: INT,
         value: None,
     };
@@ -162,24 +162,30 @@ fn constants_are_of_the_types_that_hold_them(rt: HostRuntime) -> Result<(), Fail
 }
 
 // `1 << s`, where s is a variable.
-fn shifted() -> Pending {
-    number::shifted(AT, Op::Shl, Const::Int(1), leaf::zero(INT))
+fn shifted(alloc: Global) -> Result<Pending, NoMemory> {
+    let count = leaf::zero(alloc, INT)?;
+    number::shifted(alloc, AT, Op::Shl, Const::Int(1), count)
 }
 
 #[test]
 fn a_shifted_constant_takes_the_type_around_it(rt: HostRuntime) -> Result<(), Fail> {
     let alloc = rt.alloc();
     let table = first_table(alloc)?;
-    let default = alone(alloc, &table, Operand::Pending(shifted(), Basis::Int))?;
+    let default = alone(alloc, &table, Operand::Pending(shifted(alloc)?, Basis::Int))?;
     assert_eq!(rt; default, Told::Other(INT));
     let wide = as_one_of(
         alloc,
         &table,
         INT64,
-        Operand::Pending(shifted(), Basis::Int),
+        Operand::Pending(shifted(alloc)?, Basis::Int),
     )?;
     assert_eq!(rt; wide, Told::Other(INT64));
-    let truth = as_one_of(alloc, &table, BOOL, Operand::Pending(shifted(), Basis::Int))?;
+    let truth = as_one_of(
+        alloc,
+        &table,
+        BOOL,
+        Operand::Pending(shifted(alloc)?, Basis::Int),
+    )?;
     assert_eq!(rt; truth, Told::Code(57));
     Ok(())
 }
@@ -196,8 +202,8 @@ fn fault_count(alloc: Global, table: &TypeTable, t: TypeId, p: &Pending) -> usiz
 
 // The type of a node between two operands.
 fn told_pair(core: &CoreExpr) -> Told {
-    match core {
-        CoreExpr::Binary { ty, .. } => Told::Other(*ty),
+    match &*core.form {
+        CoreForm::Binary { ty, .. } => Told::Other(*ty),
         _ => Told::Nothing,
     }
 }
@@ -206,9 +212,14 @@ fn told_pair(core: &CoreExpr) -> Told {
 fn an_untyped_number_is_made_of_its_parts(rt: HostRuntime) -> Result<(), Fail> {
     let alloc = rt.alloc();
     let table = first_table(alloc)?;
-    let minus = number::signed(alloc, Op::Neg, shifted())?;
-    let again = number::further(alloc, Op::Shl, minus, leaf::zero(INT))?;
-    let sum = number::joined(alloc, Op::Add, again, number::fixed(AT, Const::Int(300)))?;
+    let minus = number::signed(alloc, Op::Neg, shifted(alloc)?)?;
+    let again = number::further(alloc, Op::Shl, minus, leaf::zero(alloc, INT)?)?;
+    let sum = number::joined(
+        alloc,
+        Op::Add,
+        again,
+        number::fixed(alloc, AT, Const::Int(300))?,
+    )?;
     assert_eq!(rt; fault_count(alloc, &table, BYTE, &sum), 1);
     let core = pending_at(alloc, &table, INT, sum)?;
     let told = told_pair(&core);
@@ -233,7 +244,7 @@ fn constants_fold_to_answers(rt: HostRuntime) -> Result<(), Fail> {
 #[test]
 fn faults_come_before_the_answer(rt: HostRuntime) -> Result<(), Fail> {
     let alloc = rt.alloc();
-    let answer = made(leaf::zero(INT), INT);
+    let answer = made(leaf::zero(alloc, INT)?, INT);
     assert!(rt; is_known(&answer));
     assert_eq!(rt;
         told_answer(unless(Vec::new(alloc), answer)),

@@ -1,4 +1,3 @@
 pub mod FlawLemmas
 pub mod Numbers
-pub mod Steps
 pub mod TableBegins

@@ -12,7 +12,9 @@ use Rattle.go_typing.specs.Operand.{typed, constant_operand, truth_operand, pend
 use Rattle.go_typing.specs.Operand as operands
 use Rattle.go_answers.specs.declared.answer.Flaw as flaws
 use Rattle.go_answers.specs.declared.answer.Flaws.{Flaws}
-use Rattle.go_answers.specs.declared.answer.Pending.{Pending, Pending-F, fold-Pending}
+use Rattle.go_answers.specs.declared.answer.PendingForm.{PendingForm, PendingForm-F, fold-PendingForm}
+use Rattle.go_answers.specs.declared.answer.PendingForm.TheOpen.{Pending-F}
+use Rattle.go_answers.specs.declared.answer.Pending.{Pending, fold-Pending}
 use Rattle.go_answers.specs.declared.answer.Operand.{Operand}
 use Rattle.go_answers.specs.declared.answer.Operand.TheVariants as operand
 use Rattle.go_rules.specs.BuiltinView.{builtin_view}
@@ -40,15 +42,22 @@ others_of (f ∷ fs) = fs
 
 -- with the trees of the table's ids
 module _ (ts : List Ty) where
-  abbrev pub pending_step : Pending-F tree.Pending → tree.Pending
-  pending_step (Pending-F.Fixed at k) = fixed at k
-  pending_step (Pending-F.Shifted at op k count) = shifted at op k (expr_view ts count)
-  pending_step (Pending-F.Further op p count) = further op p.value (expr_view ts count)
-  pending_step (Pending-F.Signed op p) = signed op p.value
-  pending_step (Pending-F.Joined op p q) = joined op p.value q.value
+  abbrev pub pending_step : PendingForm-F tree.Pending tree.Pending → tree.Pending
+  pending_step (PendingForm-F.Fixed at k) = fixed at k
+  pending_step (PendingForm-F.Shifted at op k count) = shifted at op k (expr_view ts count)
+  pending_step (PendingForm-F.Further op p count) = further op p (expr_view ts count)
+  pending_step (PendingForm-F.Signed op p) = signed op p
+  pending_step (PendingForm-F.Joined op p q) = joined op p q
+
+  abbrev pub pending_in : Pending-F tree.Pending tree.Pending → tree.Pending
+  pending_in p = p.form.value
+
+  -- the number that a form, and that a number of a form, stands for
+  abbrev pub pending_form_view : PendingForm → tree.Pending
+  pending_form_view = fold-PendingForm tree.Pending tree.Pending pending_step pending_in
 
   abbrev pub pending_view : Pending → tree.Pending
-  pending_view = fold-Pending tree.Pending pending_step
+  pending_view = fold-Pending tree.Pending tree.Pending pending_step pending_in
 
   abbrev pub operand_view : Operand → operands.Operand
   operand_view (operand.Typed f) = typed (expr_view ts f.core) (tree_of ts f.ty) f.value

@@ -27,7 +27,16 @@ pub struct Flaws {
 
 /// An untyped number that is no constant, since an untyped constant in it is shifted by a count that
 /// is none. What is around it decides its type.
-pub enum Pending {
+#[cycle(pending)]
+#[derive(Drop)]
+pub struct Pending {
+    pub form: Box<PendingForm>,
+}
+
+/// The form of such a number.
+#[cycle(pending)]
+#[derive(Drop)]
+pub enum PendingForm {
     /// An untyped constant where it stands, as an operand.
     Fixed {
         at: Place,
@@ -43,17 +52,17 @@ pub enum Pending {
     /// A further shift.
     Further {
         op: Op,
-        operand: Box<Pending>,
+        operand: Pending,
         count: CoreExpr,
     },
     Signed {
         op: Op,
-        operand: Box<Pending>,
+        operand: Pending,
     },
     Joined {
         op: Op,
-        left: Box<Pending>,
-        right: Box<Pending>,
+        left: Pending,
+        right: Pending,
     },
 }
 

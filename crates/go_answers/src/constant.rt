@@ -18,8 +18,8 @@ pub fn constant_at(alloc: Global, t: TypeId, k: &Const) -> Result<CoreExpr, NoMe
     ensures value { IfOk result (λ e. (ts : List Ty) → expr_view ts e ≡ constant_at (tree_of ts t) k.now) }
 {
     match k {
-        Const::Bool(b) => Ok(leaf::truth(t, *b)),
-        Const::Int(z) | Const::Rune(z) => Ok(leaf::whole(t, *z)),
+        Const::Bool(b) => leaf::truth(alloc, t, *b),
+        Const::Int(z) | Const::Rune(z) => leaf::whole(alloc, t, *z),
         Const::Text(text) => leaf::text(alloc, t, text),
     }
 }

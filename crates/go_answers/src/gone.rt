@@ -4,37 +4,16 @@ use crate::answer::{Answer, Found, Operand, Pending};
 use go_core::node::CoreExprs;
 use go_nodes::gone::gone_expr;
 
+#[derive(Drop)]
+struct LostNumber {
+    _number: Pending,
+}
+
+fn gone(_lost: LostNumber) {}
+
 /// Lets an untyped number go.
 pub fn gone_pending(p: Pending) {
-    match p {
-        Pending::Fixed {
-            at: _at,
-            value: _value,
-        } => {}
-        Pending::Shifted {
-            at: _at,
-            op: _op,
-            value: _value,
-            count,
-        } => gone_expr(count),
-        Pending::Further {
-            op: _op,
-            operand,
-            count,
-        } => {
-            gone_expr(count);
-            gone_pending(Box::into_inner(operand));
-        }
-        Pending::Signed { op: _op, operand } => gone_pending(Box::into_inner(operand)),
-        Pending::Joined {
-            op: _op,
-            left,
-            right,
-        } => {
-            gone_pending(Box::into_inner(left));
-            gone_pending(Box::into_inner(right));
-        }
-    }
+    gone(LostNumber { _number: p });
 }
 
 /// Lets a value go.

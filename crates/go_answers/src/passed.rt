@@ -179,14 +179,17 @@ fn truth_passed(
     }
 }
 
-fn nil_passed(table: &TypeTable, t: TypeId) -> Passed
+fn nil_passed(alloc: Global, table: &TypeTable, t: TypeId) -> Result<Passed, NoMemory>
     requires t { t.0 < size table.now }
-    ensures view { passed_view (places table.now) result ≡ (if has_nil (underlying (names table.now) (tree_of (places table.now) t)) then passed (core.zero_value (tree_of (places table.now) t)) None else unassignable) }
+    ensures view { IfOk result (λ r. passed_view (places table.now) r ≡ (if has_nil (underlying (names table.now) (tree_of (places table.now) t)) then passed (core.zero_value (tree_of (places table.now) t)) None else unassignable)) }
 {
     if !has_nil(table, t) {
-        return Passed::Unassignable;
+        return Ok(Passed::Unassignable);
     }
-    Passed::Value(leaf::zero(t), None)
+    match leaf::zero(alloc, t) {
+        Ok(core) => Ok(Passed::Value(core, None)),
+        Err(error) => Err(error),
+    }
 }
 
 /// An operand as a value of a type.
@@ -207,7 +210,7 @@ pub fn passed_at(
         Operand::Constant(k) => constant_passed(alloc, table, at, t, k),
         Operand::Truth(c) => truth_passed(alloc, table, t, c),
         Operand::Pending(p, _basis) => pending_passed(alloc, table, t, p),
-        Operand::Nil => Ok(nil_passed(table, t)),
+        Operand::Nil => nil_passed(alloc, table, t),
     }
 }
 

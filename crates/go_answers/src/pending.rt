@@ -11,7 +11,7 @@ ghost use Rattle.go_core.specs.CoreTree as core;
 ghost use Rattle.go_typing.specs.Operand.{shifts_at, unfit_at, constant_in, constants_past, constant_at, pending_at, pending_flaws};
 ghost use Rattle.go_answers.specs.AnswerView.{flaw_view, pending_view};
 
-use crate::answer::{Flaw, Pending};
+use crate::answer::{Flaw, Pending, PendingForm};
 use crate::constant::constant_at;
 use crate::gone::gone_pending;
 use crate::rule::and_flaw;
@@ -36,12 +36,12 @@ fn shifts_at(
 ) -> Result<(), NoMemory>
     ensures value { OnOk result (map flaw_view flaws.new.items ≡ map flaw_view flaws.old.items ++ shifts_at (pending_view (places table.now) p.now)) }
 {
-    match p {
-        Pending::Fixed { .. } => Ok(()),
-        Pending::Shifted { at, .. } => and_flaw(alloc, flaws, *at, 57),
-        Pending::Further { operand, .. } => shifts_at(alloc, table, operand, flaws),
-        Pending::Signed { operand, .. } => shifts_at(alloc, table, operand, flaws),
-        Pending::Joined { left, right, .. } => {
+    match &*p.form {
+        PendingForm::Fixed { .. } => Ok(()),
+        PendingForm::Shifted { at, .. } => and_flaw(alloc, flaws, *at, 57),
+        PendingForm::Further { operand, .. } => shifts_at(alloc, table, operand, flaws),
+        PendingForm::Signed { operand, .. } => shifts_at(alloc, table, operand, flaws),
+        PendingForm::Joined { left, right, .. } => {
             shifts_at(alloc, table, left, flaws)?;
             shifts_at(alloc, table, right, flaws)
         }
@@ -75,12 +75,12 @@ fn constants_past(
 ) -> Result<(), NoMemory>
     ensures value { OnOk result (map flaw_view flaws.new.items ≡ map flaw_view flaws.old.items ++ constants_past (ty.int name) (pending_view (places table.now) p.now)) }
 {
-    match p {
-        Pending::Fixed { at, value } => unfit_at(alloc, name, *at, value, flaws),
-        Pending::Shifted { at, value, .. } => unfit_at(alloc, name, *at, value, flaws),
-        Pending::Further { operand, .. } => constants_past(alloc, table, name, operand, flaws),
-        Pending::Signed { operand, .. } => constants_past(alloc, table, name, operand, flaws),
-        Pending::Joined { left, right, .. } => {
+    match &*p.form {
+        PendingForm::Fixed { at, value } => unfit_at(alloc, name, *at, value, flaws),
+        PendingForm::Shifted { at, value, .. } => unfit_at(alloc, name, *at, value, flaws),
+        PendingForm::Further { operand, .. } => constants_past(alloc, table, name, operand, flaws),
+        PendingForm::Signed { operand, .. } => constants_past(alloc, table, name, operand, flaws),
+        PendingForm::Joined { left, right, .. } => {
             constants_past(alloc, table, name, left, flaws)?;
             constants_past(alloc, table, name, right, flaws)
         }
@@ -150,16 +150,16 @@ pub fn pending_at(
 ) -> Result<CoreExpr, NoMemory>
     ensures value { IfOk result (λ e. expr_view (places table.now) e ≡ pending_at (tree_of (places table.now) t) (pending_view (places table.now) p)) }
 {
-    match p {
-        Pending::Fixed { at: _at, value } => constant_at(alloc, t, &value),
-        Pending::Shifted {
+    match Box::into_inner(p.form) {
+        PendingForm::Fixed { at: _at, value } => constant_at(alloc, t, &value),
+        PendingForm::Shifted {
             at: _at,
             op,
             value,
             count,
         } => shift_at(alloc, table, t, op, &value, count),
-        Pending::Further { op, operand, count } => {
-            match pending_at(alloc, table, t, Box::into_inner(operand)) {
+        PendingForm::Further { op, operand, count } => {
+            match pending_at(alloc, table, t, operand) {
                 Ok(left) => pair::binary(alloc, op, t, left, count),
                 Err(error) => {
                     gone_expr(count);
@@ -167,29 +167,22 @@ pub fn pending_at(
                 }
             }
         }
-        Pending::Signed { op, operand } => match pending_at(
-            alloc,
-            table,
-            t,
-            Box::into_inner(operand),
-        ) {
+        PendingForm::Signed { op, operand } => match pending_at(alloc, table, t, operand) {
             Ok(e) => node::unary(alloc, op, t, e),
             Err(error) => Err(error),
         },
-        Pending::Joined { op, left, right } => {
-            match pending_at(alloc, table, t, Box::into_inner(left)) {
-                Ok(left) => match pending_at(alloc, table, t, Box::into_inner(right)) {
-                    Ok(right) => pair::binary(alloc, op, t, left, right),
-                    Err(error) => {
-                        gone_expr(left);
-                        Err(error)
-                    }
-                },
+        PendingForm::Joined { op, left, right } => match pending_at(alloc, table, t, left) {
+            Ok(left) => match pending_at(alloc, table, t, right) {
+                Ok(right) => pair::binary(alloc, op, t, left, right),
                 Err(error) => {
-                    gone_pending(Box::into_inner(right));
+                    gone_expr(left);
                     Err(error)
                 }
+            },
+            Err(error) => {
+                gone_pending(right);
+                Err(error)
             }
-        }
+        },
     }
 }

@@ -3,6 +3,8 @@
 //! The Go Programming Language Specification (as of Go 1.17), "Expressions". Parts are evaluated
 //! from left to right. `specs/CoreTree.antt` is the same tree without boxes and vectors, and with
 //! types as trees.
+//!
+//! An expression and a place are a box with the form, so that each takes one word where it stands.
 
 use crate::tree::FuncId;
 use gj_base::{Op, Text};
@@ -47,10 +49,17 @@ pub enum Constant {
     Text(Text),
 }
 
-/// An expression. `ty` is the type of what it gives, unless its variant says otherwise.
+/// An expression.
 #[cycle(node)]
 #[derive(Drop)]
-pub enum CoreExpr {
+pub struct CoreExpr {
+    pub form: Box<CoreForm>,
+}
+
+/// The form of an expression. `ty` is the type of what it gives, unless its variant says otherwise.
+#[cycle(node)]
+#[derive(Drop)]
+pub enum CoreForm {
     Const {
         ty: TypeId,
         value: Constant,
@@ -71,67 +80,67 @@ pub enum CoreExpr {
     Unary {
         op: Op,
         ty: TypeId,
-        operand: Box<CoreExpr>,
+        operand: CoreExpr,
     },
     /// Arithmetic or a shift on integers.
     Binary {
         op: Op,
         ty: TypeId,
-        left: Box<CoreExpr>,
-        right: Box<CoreExpr>,
+        left: CoreExpr,
+        right: CoreExpr,
     },
     Concat {
         ty: TypeId,
-        left: Box<CoreExpr>,
-        right: Box<CoreExpr>,
+        left: CoreExpr,
+        right: CoreExpr,
     },
     /// Whether both operands, of the type `operands`, are equal; or, where it is negated, aren't.
     Equal {
         negated: bool,
         operands: TypeId,
         ty: TypeId,
-        left: Box<CoreExpr>,
-        right: Box<CoreExpr>,
+        left: CoreExpr,
+        right: CoreExpr,
     },
     /// `<`, `<=`, `>` or `>=` of two integers or two strings.
     Less {
         op: Op,
         operands: TypeId,
         ty: TypeId,
-        left: Box<CoreExpr>,
-        right: Box<CoreExpr>,
+        left: CoreExpr,
+        right: CoreExpr,
     },
     AndThen {
         ty: TypeId,
-        left: Box<CoreExpr>,
-        right: Box<CoreExpr>,
+        left: CoreExpr,
+        right: CoreExpr,
     },
     OrElse {
         ty: TypeId,
-        left: Box<CoreExpr>,
-        right: Box<CoreExpr>,
+        left: CoreExpr,
+        right: CoreExpr,
     },
     Not {
         ty: TypeId,
-        operand: Box<CoreExpr>,
+        operand: CoreExpr,
     },
     Convert {
         from: TypeId,
         ty: TypeId,
-        operand: Box<CoreExpr>,
+        operand: CoreExpr,
     },
     ByteAt {
-        text: Box<CoreExpr>,
-        index: Box<CoreExpr>,
+        text: CoreExpr,
+        index: CoreExpr,
     },
     /// A part of a string, of a slice, or of the array that a pointer points to.
     SliceOf {
         from: TypeId,
         ty: TypeId,
-        operand: Box<CoreExpr>,
-        low: Option<Box<CoreExpr>>,
-        high: Option<Box<CoreExpr>>,
-        limit: Option<Box<CoreExpr>>,
+        operand: CoreExpr,
+        low: Option<CoreExpr>,
+        high: Option<CoreExpr>,
+        limit: Option<CoreExpr>,
     },
     /// A struct, an array, or a slice of `count` elements; what no element is given for is zero.
     Build {
@@ -152,14 +161,14 @@ pub enum CoreExpr {
     Bind {
         ty: TypeId,
         method: MethodName,
-        receiver: Box<CoreExpr>,
+        receiver: CoreExpr,
     },
     /// A method value of an interface value.
     BindDynamic {
         ty: TypeId,
         name: Text,
         package: Text,
-        receiver: Box<CoreExpr>,
+        receiver: CoreExpr,
     },
     /// As many values as the function has results.
     Call {
@@ -171,44 +180,44 @@ pub enum CoreExpr {
     MapGet {
         map_type: TypeId,
         with_ok: bool,
-        operand: Box<CoreExpr>,
-        key: Box<CoreExpr>,
+        operand: CoreExpr,
+        key: CoreExpr,
     },
     /// The length of a value of the type `from`.
     Len {
         from: TypeId,
-        operand: Box<CoreExpr>,
+        operand: CoreExpr,
     },
     Cap {
         from: TypeId,
-        operand: Box<CoreExpr>,
+        operand: CoreExpr,
     },
     /// A slice with the elements of another, or the bytes of a string, after its own.
     Append {
         ty: TypeId,
         from: TypeId,
-        operand: Box<CoreExpr>,
-        elements: Box<CoreExpr>,
+        operand: CoreExpr,
+        elements: CoreExpr,
     },
     /// How many elements were copied into a slice of the type `ty`.
     CopyElems {
         ty: TypeId,
         from: TypeId,
-        target: Box<CoreExpr>,
-        source: Box<CoreExpr>,
+        target: CoreExpr,
+        source: CoreExpr,
     },
     MakeSlice {
         ty: TypeId,
-        length: Box<CoreExpr>,
-        capacity: Option<Box<CoreExpr>>,
+        length: CoreExpr,
+        capacity: Option<CoreExpr>,
     },
     MakeMap {
         ty: TypeId,
-        count: Option<Box<CoreExpr>>,
+        count: Option<CoreExpr>,
     },
     MakeChan {
         ty: TypeId,
-        capacity: Option<Box<CoreExpr>>,
+        capacity: Option<CoreExpr>,
     },
     /// The pointer to a fresh zero of the type.
     New {
@@ -218,66 +227,73 @@ pub enum CoreExpr {
     Wrap {
         from: TypeId,
         ty: TypeId,
-        operand: Box<CoreExpr>,
+        operand: CoreExpr,
     },
     /// The value of the type in an interface value; also whether it is of that type.
     Assert {
         ty: TypeId,
         with_ok: bool,
-        operand: Box<CoreExpr>,
+        operand: CoreExpr,
     },
     Basic {
         ty: TypeId,
-        operand: Box<CoreExpr>,
+        operand: CoreExpr,
     },
     /// A value from a channel of the type `channel`; also whether it was sent.
     Receive {
         channel: TypeId,
         with_ok: bool,
-        operand: Box<CoreExpr>,
+        operand: CoreExpr,
     },
     Recover {
         ty: TypeId,
     },
     /// The pointer to a gate's cell, which is made where the hidden pointer is nil.
     GateMake {
-        pointer: Box<CoreExpr>,
+        pointer: CoreExpr,
     },
     /// Adds to a gate, and gives the new value.
     GateAdd {
-        cell: Box<CoreExpr>,
-        number: Box<CoreExpr>,
+        cell: CoreExpr,
+        number: CoreExpr,
     },
     /// Fresh variables with these values, for operands that no place holds.
     Let {
         vars: Vars,
         values: CoreExprs,
-        body: Box<CoreExpr>,
+        body: CoreExpr,
     },
 }
 
 /// What denotes storage.
 #[cycle(node)]
 #[derive(Drop)]
-pub enum CorePlace {
+pub struct CorePlace {
+    pub form: Box<PlaceForm>,
+}
+
+/// The form of what denotes storage.
+#[cycle(node)]
+#[derive(Drop)]
+pub enum PlaceForm {
     Local(VarId),
     Global(GlobalId),
-    Deref(Box<CoreExpr>),
+    Deref(CoreExpr),
     /// The field with this number of a struct of the type.
     Field {
         struct_type: TypeId,
         number: u32,
-        place: Box<CorePlace>,
+        place: CorePlace,
     },
     Elem {
         array_type: TypeId,
-        place: Box<CorePlace>,
-        index: Box<CoreExpr>,
+        place: CorePlace,
+        index: CoreExpr,
     },
     SliceElem {
         slice_type: TypeId,
-        operand: Box<CoreExpr>,
-        index: Box<CoreExpr>,
+        operand: CoreExpr,
+        index: CoreExpr,
     },
 }
 
@@ -289,12 +305,12 @@ pub enum Callee {
     /// A method by its row; the first operand is the receiver.
     Method(MethodName),
     /// A function value.
-    Value(Box<CoreExpr>),
+    Value(CoreExpr),
     /// A method of an interface value.
     Dynamic {
         name: Text,
         package: Text,
-        receiver: Box<CoreExpr>,
+        receiver: CoreExpr,
     },
 }
 

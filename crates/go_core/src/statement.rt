@@ -1,6 +1,7 @@
 //! The core tree of statements.
 //!
-//! The Go Programming Language Specification (as of Go 1.17), "Statements".
+//! The Go Programming Language Specification (as of Go 1.17), "Statements". A statement too is a box
+//! with the form.
 
 use crate::node::{Callee, CoreExpr, CoreExprs, CorePlace, Var, Vars};
 use go_type::types::TypeId;
@@ -56,7 +57,14 @@ pub enum Communication {
 /// A statement.
 #[cycle(statement)]
 #[derive(Drop)]
-pub enum CoreStmt {
+pub struct CoreStmt {
+    pub form: Box<CoreStmtForm>,
+}
+
+/// The form of a statement.
+#[cycle(statement)]
+#[derive(Drop)]
+pub enum CoreStmtForm {
     Seq(CoreStmts),
     /// An expression whose values, so many, are dropped.
     Perform {

@@ -4,6 +4,7 @@
 //! stands for, whatever its types' ids stand for.
 #![tactic(auto)]
 
+pub mod form;
 pub mod gone;
 pub mod leaf;
 pub mod list;

@@ -6,45 +6,11 @@ ghost use Rattle.go_type.specs.Levels.{tree_of};
 ghost use Rattle.go_core.specs.CoreTree as core;
 ghost use Rattle.go_core.specs.CoreView.{expr_view};
 
-use crate::gone::gone_expr;
-use crate::node::boxed;
+use crate::form::expression;
 use gj_base::{NoMemory, Op};
-use go_core::node::CoreExpr;
+use go_core::node::{CoreExpr, CoreForm};
 use go_type::types::TypeId;
 use std::alloc::Global;
-
-/// Two operands in their boxes.
-#[derive(Drop)]
-struct Pair {
-    left: Box<CoreExpr>,
-    right: Box<CoreExpr>,
-}
-
-fn second(alloc: Global, left: Box<CoreExpr>, right: CoreExpr) -> Result<Pair, NoMemory>
-    ensures left { IfOk result (λ p. (ts : List Ty) → expr_view ts p.left.value ≡ expr_view ts left.value) }
-    ensures right { IfOk result (λ p. (ts : List Ty) → expr_view ts p.right.value ≡ expr_view ts right) }
-{
-    match boxed(alloc, right) {
-        Ok(right) => Ok(Pair { left, right }),
-        Err(error) => {
-            gone_expr(Box::into_inner(left));
-            Err(error)
-        }
-    }
-}
-
-fn both(alloc: Global, left: CoreExpr, right: CoreExpr) -> Result<Pair, NoMemory>
-    ensures left { IfOk result (λ p. (ts : List Ty) → expr_view ts p.left.value ≡ expr_view ts left) }
-    ensures right { IfOk result (λ p. (ts : List Ty) → expr_view ts p.right.value ≡ expr_view ts right) }
-{
-    match boxed(alloc, left) {
-        Ok(left) => second(alloc, left, right),
-        Err(error) => {
-            gone_expr(right);
-            Err(error)
-        }
-    }
-}
 
 /// Arithmetic or a shift on integers.
 pub fn binary(
@@ -56,13 +22,15 @@ pub fn binary(
 ) -> Result<CoreExpr, NoMemory>
     ensures value { IfOk result (λ r. (ts : List Ty) → expr_view ts r ≡ core.binary op (tree_of ts ty) (expr_view ts left) (expr_view ts right)) }
 {
-    let Pair { left, right } = both(alloc, left, right)?;
-    Ok(CoreExpr::Binary {
-        op,
-        ty,
-        left,
-        right,
-    })
+    expression(
+        alloc,
+        CoreForm::Binary {
+            op,
+            ty,
+            left,
+            right,
+        },
+    )
 }
 
 /// One string and then the other.
@@ -74,8 +42,7 @@ pub fn concat(
 ) -> Result<CoreExpr, NoMemory>
     ensures value { IfOk result (λ r. (ts : List Ty) → expr_view ts r ≡ core.concat (tree_of ts ty) (expr_view ts left) (expr_view ts right)) }
 {
-    let Pair { left, right } = both(alloc, left, right)?;
-    Ok(CoreExpr::Concat { ty, left, right })
+    expression(alloc, CoreForm::Concat { ty, left, right })
 }
 
 /// Whether both operands are equal, or, where it is negated, aren't.
@@ -89,14 +56,16 @@ pub fn equal(
 ) -> Result<CoreExpr, NoMemory>
     ensures value { IfOk result (λ r. (ts : List Ty) → expr_view ts r ≡ core.equal negated (tree_of ts operands) (tree_of ts ty) (expr_view ts left) (expr_view ts right)) }
 {
-    let Pair { left, right } = both(alloc, left, right)?;
-    Ok(CoreExpr::Equal {
-        negated,
-        operands,
-        ty,
-        left,
-        right,
-    })
+    expression(
+        alloc,
+        CoreForm::Equal {
+            negated,
+            operands,
+            ty,
+            left,
+            right,
+        },
+    )
 }
 
 /// `<`, `<=`, `>` or `>=`.
@@ -110,14 +79,16 @@ pub fn less(
 ) -> Result<CoreExpr, NoMemory>
     ensures value { IfOk result (λ r. (ts : List Ty) → expr_view ts r ≡ core.less op (tree_of ts operands) (tree_of ts ty) (expr_view ts left) (expr_view ts right)) }
 {
-    let Pair { left, right } = both(alloc, left, right)?;
-    Ok(CoreExpr::Less {
-        op,
-        operands,
-        ty,
-        left,
-        right,
-    })
+    expression(
+        alloc,
+        CoreForm::Less {
+            op,
+            operands,
+            ty,
+            left,
+            right,
+        },
+    )
 }
 
 /// `&&`.
@@ -129,8 +100,7 @@ pub fn and_then(
 ) -> Result<CoreExpr, NoMemory>
     ensures value { IfOk result (λ r. (ts : List Ty) → expr_view ts r ≡ core.and_then (tree_of ts ty) (expr_view ts left) (expr_view ts right)) }
 {
-    let Pair { left, right } = both(alloc, left, right)?;
-    Ok(CoreExpr::AndThen { ty, left, right })
+    expression(alloc, CoreForm::AndThen { ty, left, right })
 }
 
 /// `||`.
@@ -142,17 +112,12 @@ pub fn or_else(
 ) -> Result<CoreExpr, NoMemory>
     ensures value { IfOk result (λ r. (ts : List Ty) → expr_view ts r ≡ core.or_else (tree_of ts ty) (expr_view ts left) (expr_view ts right)) }
 {
-    let Pair { left, right } = both(alloc, left, right)?;
-    Ok(CoreExpr::OrElse { ty, left, right })
+    expression(alloc, CoreForm::OrElse { ty, left, right })
 }
 
 /// A byte of a string.
 pub fn byte_at(alloc: Global, text: CoreExpr, index: CoreExpr) -> Result<CoreExpr, NoMemory>
     ensures value { IfOk result (λ r. (ts : List Ty) → expr_view ts r ≡ core.byte_at (expr_view ts text) (expr_view ts index)) }
 {
-    let Pair { left, right } = both(alloc, text, index)?;
-    Ok(CoreExpr::ByteAt {
-        text: left,
-        index: right,
-    })
+    expression(alloc, CoreForm::ByteAt { text, index })
 }

@@ -1,4 +1,3 @@
-pub mod StmtViews
 pub mod StackLemmas
 pub mod TodoLemmas
 pub mod PassedLemmas

@@ -9,7 +9,7 @@ use Rattle.go_core.specs.Goroutine.{able}
 use Rattle.go_state.specs.Seen.{goroutine_of}
 use Rattle.go_state.specs.declared.state.Goroutine.{Goroutine}
 use Rattle.go_state.specs.declared.state.Waiting.TheVariants as waiting
-use Rattle.go_state.proofs.StmtViews.{get_here}
+use Rattle.go_tasks.proofs.ListsLemmas.{get_here}
 
 pub able_again : (ts : List Ty) (xs : List Goroutine) (g : ℕ) (w : Goroutine) → g < length xs → w ≡ get_or xs g w
     → map (goroutine_of ts) (slice_set xs g (record w { waiting = waiting.Able }))

@@ -17,7 +17,7 @@ use crate::frame::Todo;
 use crate::stack::drop_values;
 use crate::todo::open_onto;
 use gj_base::NoMemory;
-use go_core::statement::{CoreStmt, CoreStmts};
+use go_core::statement::{CoreStmtForm, CoreStmts};
 use go_tasks::task::Task;
 use go_values::scalar::Scalar;
 
@@ -29,37 +29,37 @@ fn dropped_at(list: &CoreStmts, at: usize) -> Option<u32>
     if at >= list.items.len() {
         return Some(0);
     }
-    match &list.items[at] {
-        CoreStmt::Seq(_) => Some(0),
-        CoreStmt::Perform { operand: _, values } => Some(*values),
-        CoreStmt::Declare(_) => None,
-        CoreStmt::Store {
+    match &*list.items[at].form {
+        CoreStmtForm::Seq(_) => Some(0),
+        CoreStmtForm::Perform { operand: _, values } => Some(*values),
+        CoreStmtForm::Declare(_) => None,
+        CoreStmtForm::Store {
             targets: _,
             values: _,
         } => None,
-        CoreStmt::MapDelete {
+        CoreStmtForm::MapDelete {
             map_type: _,
             operand: _,
             key: _,
         } => None,
-        CoreStmt::If {
+        CoreStmtForm::If {
             condition: _,
             when_true: _,
             when_false: _,
         } => None,
-        CoreStmt::Loop {
+        CoreStmtForm::Loop {
             label: _,
             condition: _,
             body: _,
             post: _,
         } => Some(0),
-        CoreStmt::SwitchOn {
+        CoreStmtForm::SwitchOn {
             label: _,
             tests: _,
             clauses: _,
             default: _,
         } => Some(0),
-        CoreStmt::RangeNext {
+        CoreStmtForm::RangeNext {
             label: _,
             from: _,
             operand: _,
@@ -67,39 +67,39 @@ fn dropped_at(list: &CoreStmts, at: usize) -> Option<u32>
             value: _,
             body: _,
         } => None,
-        CoreStmt::Labeled { label: _, body: _ } => Some(0),
-        CoreStmt::Branch { kind: _, label: _ } => None,
-        CoreStmt::Send {
+        CoreStmtForm::Labeled { label: _, body: _ } => Some(0),
+        CoreStmtForm::Branch { kind: _, label: _ } => None,
+        CoreStmtForm::Send {
             channel: _,
             operand: _,
             value: _,
         } => None,
-        CoreStmt::Close(_) => None,
-        CoreStmt::SelectStep {
+        CoreStmtForm::Close(_) => None,
+        CoreStmtForm::SelectStep {
             label: _,
             cases: _,
             has_default: _,
             default: _,
         } => None,
-        CoreStmt::GateTake(_) => None,
-        CoreStmt::GateAwait(_) => None,
-        CoreStmt::Yield => None,
-        CoreStmt::GoCall {
+        CoreStmtForm::GateTake(_) => None,
+        CoreStmtForm::GateAwait(_) => None,
+        CoreStmtForm::Yield => None,
+        CoreStmtForm::GoCall {
             callee: _,
             operands: _,
         } => None,
-        CoreStmt::DeferCall {
+        CoreStmtForm::DeferCall {
             callee: _,
             operands: _,
         } => None,
-        CoreStmt::Return(_) => None,
-        CoreStmt::Panic(_) => None,
-        CoreStmt::Print {
+        CoreStmtForm::Return(_) => None,
+        CoreStmtForm::Panic(_) => None,
+        CoreStmtForm::Print {
             operands: _,
             ends_line: _,
         } => None,
-        CoreStmt::Exit(_) => None,
-        CoreStmt::Fatal(_) => None,
+        CoreStmtForm::Exit(_) => None,
+        CoreStmtForm::Fatal(_) => None,
     }
 }
 

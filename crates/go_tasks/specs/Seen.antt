@@ -5,7 +5,7 @@ use Rattle.go_core.specs.CoreTree as core
 use Rattle.go_core.specs.CoreTree.{Expr, Exprs, Bound, Pairs, Elements, Clauses, Cases, Tests, no_tests, test, Stmt, Stmts}
 use Rattle.go_core.specs.Goroutine as task
 use Rattle.go_core.specs.Opened.{evaluated, placed, all_evaluated, bound_first, elements_first, pairs_first, callee_first, operands_first, targets_first, cases_first, opened, all_opened, loop_opened, tests_opened, clause_opened}
-use Rattle.go_core.specs.CoreView.{callee_step, expr_step, place_step, element_in, elements_in, exprs_in, pair_in, pairs_in, stmt_step, case_in, cases_in, clause_in, clauses_in, stmts_in, expr_view, exprs_of, place_view, callee_view, elements_of, pairs_of, target_view, cases_of, stmt_view, stmts_of, stmts_view, clauses_of, tests_of, bound_of}
+use Rattle.go_core.specs.CoreView.{callee_step, expr_step, place_step, element_in, elements_in, expr_in, exprs_in, pair_in, pairs_in, place_in, stmt_step, case_in, cases_in, clause_in, clauses_in, stmt_in, stmts_in, expr_view, exprs_of, place_view, callee_view, elements_of, pairs_of, target_view, cases_of, stmt_view, stmts_of, stmts_view, clauses_of, tests_of, bound_of}
 use Rattle.go_core.specs.declared.node.CoreExprs.{CoreExprs, out-CoreExprs}
 use Rattle.go_core.specs.declared.node.CoreElements.{CoreElements, out-CoreElements, fold-CoreElements}
 use Rattle.go_core.specs.declared.node.CorePairs.{CorePairs, out-CorePairs, fold-CorePairs}
@@ -72,28 +72,28 @@ done_at (Some s) rest = done s rest
 -- with the trees of the table's types
 module _ (ts : List Ty) where
   abbrev pub element_view : CoreElement → Elements → Elements
-  element_view = fold-CoreElement core.Callee Expr core.CorePlace (Elements → Elements) Elements Exprs (Pairs → Pairs) Pairs (callee_step ts) (expr_step ts) (place_step ts) (element_in ts) (elements_in ts) (exprs_in ts) (pair_in ts) (pairs_in ts)
+  element_view = fold-CoreElement core.Callee Expr core.CorePlace (Elements → Elements) Elements Expr Exprs (Pairs → Pairs) Pairs core.CorePlace (callee_step ts) (expr_step ts) (place_step ts) (element_in ts) (elements_in ts) (expr_in ts) (exprs_in ts) (pair_in ts) (pairs_in ts) (place_in ts)
 
   abbrev pub pair_view : CorePair → Pairs → Pairs
-  pair_view = fold-CorePair core.Callee Expr core.CorePlace (Elements → Elements) Elements Exprs (Pairs → Pairs) Pairs (callee_step ts) (expr_step ts) (place_step ts) (element_in ts) (elements_in ts) (exprs_in ts) (pair_in ts) (pairs_in ts)
+  pair_view = fold-CorePair core.Callee Expr core.CorePlace (Elements → Elements) Elements Expr Exprs (Pairs → Pairs) Pairs core.CorePlace (callee_step ts) (expr_step ts) (place_step ts) (element_in ts) (elements_in ts) (expr_in ts) (exprs_in ts) (pair_in ts) (pairs_in ts) (place_in ts)
 
   abbrev pub clause_view : CoreClause → Clauses → Clauses
-  clause_view = fold-CoreClause Stmt (Cases → Cases) Cases (Clauses → Clauses) Clauses Stmts (stmt_step ts) (case_in ts) (cases_in ts) (clause_in ts) (clauses_in ts) (stmts_in ts)
+  clause_view = fold-CoreClause Stmt (Cases → Cases) Cases (Clauses → Clauses) Clauses Stmt Stmts (stmt_step ts) (case_in ts) (cases_in ts) (clause_in ts) (clauses_in ts) (stmt_in ts) (stmts_in ts)
 
   abbrev pub case_view : CoreCase → Cases → Cases
-  case_view = fold-CoreCase Stmt (Cases → Cases) Cases (Clauses → Clauses) Clauses Stmts (stmt_step ts) (case_in ts) (cases_in ts) (clause_in ts) (clauses_in ts) (stmts_in ts)
+  case_view = fold-CoreCase Stmt (Cases → Cases) Cases (Clauses → Clauses) Clauses Stmt Stmts (stmt_step ts) (case_in ts) (cases_in ts) (clause_in ts) (clauses_in ts) (stmt_in ts) (stmts_in ts)
 
   abbrev pub elements_view : CoreElements → Elements
-  elements_view = fold-CoreElements core.Callee Expr core.CorePlace (Elements → Elements) Elements Exprs (Pairs → Pairs) Pairs (callee_step ts) (expr_step ts) (place_step ts) (element_in ts) (elements_in ts) (exprs_in ts) (pair_in ts) (pairs_in ts)
+  elements_view = fold-CoreElements core.Callee Expr core.CorePlace (Elements → Elements) Elements Expr Exprs (Pairs → Pairs) Pairs core.CorePlace (callee_step ts) (expr_step ts) (place_step ts) (element_in ts) (elements_in ts) (expr_in ts) (exprs_in ts) (pair_in ts) (pairs_in ts) (place_in ts)
 
   abbrev pub pairs_view : CorePairs → Pairs
-  pairs_view = fold-CorePairs core.Callee Expr core.CorePlace (Elements → Elements) Elements Exprs (Pairs → Pairs) Pairs (callee_step ts) (expr_step ts) (place_step ts) (element_in ts) (elements_in ts) (exprs_in ts) (pair_in ts) (pairs_in ts)
+  pairs_view = fold-CorePairs core.Callee Expr core.CorePlace (Elements → Elements) Elements Expr Exprs (Pairs → Pairs) Pairs core.CorePlace (callee_step ts) (expr_step ts) (place_step ts) (element_in ts) (elements_in ts) (expr_in ts) (exprs_in ts) (pair_in ts) (pairs_in ts) (place_in ts)
 
   abbrev pub clauses_view : CoreClauses → Clauses
-  clauses_view = fold-CoreClauses Stmt (Cases → Cases) Cases (Clauses → Clauses) Clauses Stmts (stmt_step ts) (case_in ts) (cases_in ts) (clause_in ts) (clauses_in ts) (stmts_in ts)
+  clauses_view = fold-CoreClauses Stmt (Cases → Cases) Cases (Clauses → Clauses) Clauses Stmt Stmts (stmt_step ts) (case_in ts) (cases_in ts) (clause_in ts) (clauses_in ts) (stmt_in ts) (stmts_in ts)
 
   abbrev pub cases_view : CoreCases → Cases
-  cases_view = fold-CoreCases Stmt (Cases → Cases) Cases (Clauses → Clauses) Clauses Stmts (stmt_step ts) (case_in ts) (cases_in ts) (clause_in ts) (clauses_in ts) (stmts_in ts)
+  cases_view = fold-CoreCases Stmt (Cases → Cases) Cases (Clauses → Clauses) Clauses Stmt Stmts (stmt_step ts) (case_in ts) (cases_in ts) (clause_in ts) (clauses_in ts) (stmt_in ts) (stmts_in ts)
 
   -- nodes from a place on
   abbrev pub exprs_from : CoreExprs → ℕ → Exprs

@@ -15,12 +15,12 @@ use crate::task::ExprTask::{Apply, Bounds, Evaluate};
 use crate::task::PlaceTask::{self, Find, Operands};
 use crate::task::Task::{All, Elements, Expr, Nothing, Pairs, Place};
 use crate::task::{Pieces, Task};
-use go_core::node::{Callee, CoreExpr, CorePlace};
+use go_core::node::{Callee, CoreExpr, CoreForm, CorePlace, PlaceForm};
 
 // A bound, if there is one.
-fn bounded<'p>(bound: &'p Option<Box<CoreExpr>>) -> Task<'p>
-    ensures value { (ts : List Ty) (rest : List task.Task) → first_of ts result rest ≡ bound_first (bound_of (option_map (λ b. expr_view ts b.value) bound.now)) rest }
-    ensures weighs { (ts : List Ty) → weight ts result ≡ bound_weight (bound_of (option_map (λ b. expr_view ts b.value) bound.now)) }
+fn bounded<'p>(bound: &'p Option<CoreExpr>) -> Task<'p>
+    ensures value { (ts : List Ty) (rest : List task.Task) → first_of ts result rest ≡ bound_first (bound_of (option_map (expr_view ts) bound.now)) rest }
+    ensures weighs { (ts : List Ty) → weight ts result ≡ bound_weight (bound_of (option_map (expr_view ts) bound.now)) }
 {
     match bound {
         Some(e) => Expr(Evaluate, e),
@@ -34,89 +34,89 @@ pub fn open_expr<'p>(e: &'p CoreExpr) -> Pieces<'p>
     ensures smaller { (ts : List Ty) → pieces_weight ts result < expr_weight (expr_view ts e.now) }
 {
     let own = Expr(Apply, e);
-    match e {
-        CoreExpr::Const { .. } => Pieces(own, Nothing, Nothing),
-        CoreExpr::Zero { .. } => Pieces(own, Nothing, Nothing),
-        CoreExpr::Read { place, .. } => Pieces(Place(Find, place), own, Nothing),
-        CoreExpr::Address { place, .. } => Pieces(Place(Find, place), own, Nothing),
-        CoreExpr::Unary { operand, .. } => Pieces(Expr(Evaluate, operand), own, Nothing),
-        CoreExpr::Binary { left, right, .. } => Pieces(
+    match &*e.form {
+        CoreForm::Const { .. } => Pieces(own, Nothing, Nothing),
+        CoreForm::Zero { .. } => Pieces(own, Nothing, Nothing),
+        CoreForm::Read { place, .. } => Pieces(Place(Find, place), own, Nothing),
+        CoreForm::Address { place, .. } => Pieces(Place(Find, place), own, Nothing),
+        CoreForm::Unary { operand, .. } => Pieces(Expr(Evaluate, operand), own, Nothing),
+        CoreForm::Binary { left, right, .. } => Pieces(
             Expr(Evaluate, left),
             Expr(Evaluate, right),
             own,
         ),
-        CoreExpr::Concat { left, right, .. } => Pieces(
+        CoreForm::Concat { left, right, .. } => Pieces(
             Expr(Evaluate, left),
             Expr(Evaluate, right),
             own,
         ),
-        CoreExpr::Equal { left, right, .. } => Pieces(
+        CoreForm::Equal { left, right, .. } => Pieces(
             Expr(Evaluate, left),
             Expr(Evaluate, right),
             own,
         ),
-        CoreExpr::Less { left, right, .. } => Pieces(
+        CoreForm::Less { left, right, .. } => Pieces(
             Expr(Evaluate, left),
             Expr(Evaluate, right),
             own,
         ),
-        CoreExpr::AndThen { left, .. } => Pieces(Expr(Evaluate, left), own, Nothing),
-        CoreExpr::OrElse { left, .. } => Pieces(Expr(Evaluate, left), own, Nothing),
-        CoreExpr::Not { operand, .. } => Pieces(Expr(Evaluate, operand), own, Nothing),
-        CoreExpr::Convert { operand, .. } => Pieces(Expr(Evaluate, operand), own, Nothing),
-        CoreExpr::ByteAt { text, index } => Pieces(
+        CoreForm::AndThen { left, .. } => Pieces(Expr(Evaluate, left), own, Nothing),
+        CoreForm::OrElse { left, .. } => Pieces(Expr(Evaluate, left), own, Nothing),
+        CoreForm::Not { operand, .. } => Pieces(Expr(Evaluate, operand), own, Nothing),
+        CoreForm::Convert { operand, .. } => Pieces(Expr(Evaluate, operand), own, Nothing),
+        CoreForm::ByteAt { text, index } => Pieces(
             Expr(Evaluate, text),
             Expr(Evaluate, index),
             own,
         ),
-        CoreExpr::SliceOf { operand, .. } => Pieces(Expr(Evaluate, operand), Expr(Bounds, e), own),
-        CoreExpr::Build { elements, .. } => Pieces(Elements(elements, 0), own, Nothing),
-        CoreExpr::BuildMap { pairs, .. } => Pieces(Pairs(pairs, 0), own, Nothing),
-        CoreExpr::Closure { .. } => Pieces(own, Nothing, Nothing),
-        CoreExpr::Bind { receiver, .. } => Pieces(Expr(Evaluate, receiver), own, Nothing),
-        CoreExpr::BindDynamic { receiver, .. } => Pieces(Expr(Evaluate, receiver), own, Nothing),
-        CoreExpr::Call {
+        CoreForm::SliceOf { operand, .. } => Pieces(Expr(Evaluate, operand), Expr(Bounds, e), own),
+        CoreForm::Build { elements, .. } => Pieces(Elements(elements, 0), own, Nothing),
+        CoreForm::BuildMap { pairs, .. } => Pieces(Pairs(pairs, 0), own, Nothing),
+        CoreForm::Closure { .. } => Pieces(own, Nothing, Nothing),
+        CoreForm::Bind { receiver, .. } => Pieces(Expr(Evaluate, receiver), own, Nothing),
+        CoreForm::BindDynamic { receiver, .. } => Pieces(Expr(Evaluate, receiver), own, Nothing),
+        CoreForm::Call {
             callee,
             operands,
             ..
         } => Pieces(Task::Callee(callee), All(operands, 0), own),
-        CoreExpr::MapGet { operand, key, .. } => Pieces(
+        CoreForm::MapGet { operand, key, .. } => Pieces(
             Expr(Evaluate, operand),
             Expr(Evaluate, key),
             own,
         ),
-        CoreExpr::Len { operand, .. } => Pieces(Expr(Evaluate, operand), own, Nothing),
-        CoreExpr::Cap { operand, .. } => Pieces(Expr(Evaluate, operand), own, Nothing),
-        CoreExpr::Append {
+        CoreForm::Len { operand, .. } => Pieces(Expr(Evaluate, operand), own, Nothing),
+        CoreForm::Cap { operand, .. } => Pieces(Expr(Evaluate, operand), own, Nothing),
+        CoreForm::Append {
             operand,
             elements,
             ..
         } => Pieces(Expr(Evaluate, operand), Expr(Evaluate, elements), own),
-        CoreExpr::CopyElems { target, source, .. } => Pieces(
+        CoreForm::CopyElems { target, source, .. } => Pieces(
             Expr(Evaluate, target),
             Expr(Evaluate, source),
             own,
         ),
-        CoreExpr::MakeSlice {
+        CoreForm::MakeSlice {
             length,
             capacity,
             ..
         } => Pieces(Expr(Evaluate, length), bounded(capacity), own),
-        CoreExpr::MakeMap { count, .. } => Pieces(bounded(count), own, Nothing),
-        CoreExpr::MakeChan { capacity, .. } => Pieces(bounded(capacity), own, Nothing),
-        CoreExpr::New { .. } => Pieces(own, Nothing, Nothing),
-        CoreExpr::Wrap { operand, .. } => Pieces(Expr(Evaluate, operand), own, Nothing),
-        CoreExpr::Assert { operand, .. } => Pieces(Expr(Evaluate, operand), own, Nothing),
-        CoreExpr::Basic { operand, .. } => Pieces(Expr(Evaluate, operand), own, Nothing),
-        CoreExpr::Receive { operand, .. } => Pieces(Expr(Evaluate, operand), own, Nothing),
-        CoreExpr::Recover { .. } => Pieces(own, Nothing, Nothing),
-        CoreExpr::GateMake { pointer } => Pieces(Expr(Evaluate, pointer), own, Nothing),
-        CoreExpr::GateAdd { cell, number } => Pieces(
+        CoreForm::MakeMap { count, .. } => Pieces(bounded(count), own, Nothing),
+        CoreForm::MakeChan { capacity, .. } => Pieces(bounded(capacity), own, Nothing),
+        CoreForm::New { .. } => Pieces(own, Nothing, Nothing),
+        CoreForm::Wrap { operand, .. } => Pieces(Expr(Evaluate, operand), own, Nothing),
+        CoreForm::Assert { operand, .. } => Pieces(Expr(Evaluate, operand), own, Nothing),
+        CoreForm::Basic { operand, .. } => Pieces(Expr(Evaluate, operand), own, Nothing),
+        CoreForm::Receive { operand, .. } => Pieces(Expr(Evaluate, operand), own, Nothing),
+        CoreForm::Recover { .. } => Pieces(own, Nothing, Nothing),
+        CoreForm::GateMake { pointer } => Pieces(Expr(Evaluate, pointer), own, Nothing),
+        CoreForm::GateAdd { cell, number } => Pieces(
             Expr(Evaluate, cell),
             Expr(Evaluate, number),
             own,
         ),
-        CoreExpr::Let { values, body, .. } => Pieces(All(values, 0), own, Expr(Evaluate, body)),
+        CoreForm::Let { values, body, .. } => Pieces(All(values, 0), own, Expr(Evaluate, body)),
     }
 }
 
@@ -125,8 +125,8 @@ pub fn open_bounds<'p>(e: &'p CoreExpr) -> Pieces<'p>
     ensures value { (ts : List Ty) (rest : List task.Task) → pieces_first ts result rest ≡ bounds_first (expr_view ts e.now) rest }
     ensures smaller { (ts : List Ty) → pieces_weight ts result < bounds_weight (expr_view ts e.now) }
 {
-    match e {
-        CoreExpr::SliceOf {
+    match &*e.form {
+        CoreForm::SliceOf {
             low,
             high,
             limit,
@@ -142,17 +142,17 @@ pub fn open_place<'p>(place: &'p CorePlace) -> Pieces<'p>
     ensures smaller { (ts : List Ty) → pieces_weight ts result < place_weight (place_view ts place.now) }
 {
     let own = Place(PlaceTask::Apply, place);
-    match place {
-        CorePlace::Local(_) => Pieces(own, Nothing, Nothing),
-        CorePlace::Global(_) => Pieces(own, Nothing, Nothing),
-        CorePlace::Deref(e) => Pieces(Expr(Evaluate, e), own, Nothing),
-        CorePlace::Field { place: outer, .. } => Pieces(Place(Find, outer), own, Nothing),
-        CorePlace::Elem {
+    match &*place.form {
+        PlaceForm::Local(_) => Pieces(own, Nothing, Nothing),
+        PlaceForm::Global(_) => Pieces(own, Nothing, Nothing),
+        PlaceForm::Deref(e) => Pieces(Expr(Evaluate, e), own, Nothing),
+        PlaceForm::Field { place: outer, .. } => Pieces(Place(Find, outer), own, Nothing),
+        PlaceForm::Elem {
             place: outer,
             index,
             ..
         } => Pieces(Place(Find, outer), Expr(Evaluate, index), own),
-        CorePlace::SliceElem { operand, index, .. } => Pieces(
+        PlaceForm::SliceElem { operand, index, .. } => Pieces(
             Expr(Evaluate, operand),
             Expr(Evaluate, index),
             own,
@@ -165,17 +165,17 @@ pub fn open_operands<'p>(place: &'p CorePlace) -> Pieces<'p>
     ensures value { (ts : List Ty) (rest : List task.Task) → pieces_first ts result rest ≡ operands_first (place_view ts place.now) rest }
     ensures smaller { (ts : List Ty) → pieces_weight ts result < place_weight (place_view ts place.now) }
 {
-    match place {
-        CorePlace::Local(_) => Pieces(Nothing, Nothing, Nothing),
-        CorePlace::Global(_) => Pieces(Nothing, Nothing, Nothing),
-        CorePlace::Deref(e) => Pieces(Expr(Evaluate, e), Nothing, Nothing),
-        CorePlace::Field { place: outer, .. } => Pieces(Place(Operands, outer), Nothing, Nothing),
-        CorePlace::Elem {
+    match &*place.form {
+        PlaceForm::Local(_) => Pieces(Nothing, Nothing, Nothing),
+        PlaceForm::Global(_) => Pieces(Nothing, Nothing, Nothing),
+        PlaceForm::Deref(e) => Pieces(Expr(Evaluate, e), Nothing, Nothing),
+        PlaceForm::Field { place: outer, .. } => Pieces(Place(Operands, outer), Nothing, Nothing),
+        PlaceForm::Elem {
             place: outer,
             index,
             ..
         } => Pieces(Place(Operands, outer), Expr(Evaluate, index), Nothing),
-        CorePlace::SliceElem { operand, index, .. } => Pieces(
+        PlaceForm::SliceElem { operand, index, .. } => Pieces(
             Expr(Evaluate, operand),
             Expr(Evaluate, index),
             Nothing,

@@ -13,7 +13,7 @@ ghost use Rattle.go_tasks.specs.Weight.{pieces_weight, stmt_weight_at, bound_wei
 use crate::task::ExprTask::Evaluate;
 use crate::task::Task::{All, Expr, Leave, Nothing, Run};
 use crate::task::{Loop, LoopTask, Pieces, Switch, SwitchTask, Task};
-use go_core::statement::{CoreClauses, CoreStmt, CoreStmts};
+use go_core::statement::{CoreClauses, CoreStmtForm, CoreStmts};
 
 /// The one statement at a place: its operands, and then what it does itself.
 pub fn open_one<'p>(list: &'p CoreStmts, at: usize) -> Pieces<'p>
@@ -24,22 +24,22 @@ pub fn open_one<'p>(list: &'p CoreStmts, at: usize) -> Pieces<'p>
         return Pieces(Nothing, Nothing, Nothing);
     }
     let own = Task::Do(list, at);
-    match &list.items[at] {
-        CoreStmt::Seq(ss) => Pieces(Run(ss, 0), Nothing, Nothing),
-        CoreStmt::Perform { operand, .. } => Pieces(Expr(Evaluate, operand), own, Nothing),
-        CoreStmt::Declare(_) => Pieces(own, Nothing, Nothing),
-        CoreStmt::Store { targets, values } => Pieces(
+    match &*list.items[at].form {
+        CoreStmtForm::Seq(ss) => Pieces(Run(ss, 0), Nothing, Nothing),
+        CoreStmtForm::Perform { operand, .. } => Pieces(Expr(Evaluate, operand), own, Nothing),
+        CoreStmtForm::Declare(_) => Pieces(own, Nothing, Nothing),
+        CoreStmtForm::Store { targets, values } => Pieces(
             Task::Targets(targets, 0),
             All(values, 0),
             own,
         ),
-        CoreStmt::MapDelete { operand, key, .. } => Pieces(
+        CoreStmtForm::MapDelete { operand, key, .. } => Pieces(
             Expr(Evaluate, operand),
             Expr(Evaluate, key),
             own,
         ),
-        CoreStmt::If { condition, .. } => Pieces(Expr(Evaluate, condition), own, Nothing),
-        CoreStmt::Loop {
+        CoreStmtForm::If { condition, .. } => Pieces(Expr(Evaluate, condition), own, Nothing),
+        CoreStmtForm::Loop {
             label,
             condition,
             body,
@@ -53,7 +53,7 @@ pub fn open_one<'p>(list: &'p CoreStmts, at: usize) -> Pieces<'p>
             };
             Pieces(Task::Loop(LoopTask::Begin, parts), Nothing, Nothing)
         }
-        CoreStmt::SwitchOn {
+        CoreStmtForm::SwitchOn {
             label,
             tests,
             clauses,
@@ -71,38 +71,38 @@ pub fn open_one<'p>(list: &'p CoreStmts, at: usize) -> Pieces<'p>
                 Nothing,
             )
         }
-        CoreStmt::RangeNext { operand, .. } => Pieces(Expr(Evaluate, operand), own, Nothing),
-        CoreStmt::Labeled { label, body } => Pieces(Run(body, 0), Leave(*label), Nothing),
-        CoreStmt::Branch { .. } => Pieces(own, Nothing, Nothing),
-        CoreStmt::Send { operand, value, .. } => Pieces(
+        CoreStmtForm::RangeNext { operand, .. } => Pieces(Expr(Evaluate, operand), own, Nothing),
+        CoreStmtForm::Labeled { label, body } => Pieces(Run(body, 0), Leave(*label), Nothing),
+        CoreStmtForm::Branch { .. } => Pieces(own, Nothing, Nothing),
+        CoreStmtForm::Send { operand, value, .. } => Pieces(
             Expr(Evaluate, operand),
             Expr(Evaluate, value),
             own,
         ),
-        CoreStmt::Close(e) => Pieces(Expr(Evaluate, e), own, Nothing),
-        CoreStmt::SelectStep { label, cases, .. } => Pieces(
+        CoreStmtForm::Close(e) => Pieces(Expr(Evaluate, e), own, Nothing),
+        CoreStmtForm::SelectStep { label, cases, .. } => Pieces(
             Task::Cases(cases, 0),
             own,
             Leave(*label),
         ),
-        CoreStmt::GateTake(e) => Pieces(Expr(Evaluate, e), own, Nothing),
-        CoreStmt::GateAwait(e) => Pieces(Expr(Evaluate, e), own, Nothing),
-        CoreStmt::Yield => Pieces(own, Nothing, Nothing),
-        CoreStmt::GoCall { callee, operands } => Pieces(
+        CoreStmtForm::GateTake(e) => Pieces(Expr(Evaluate, e), own, Nothing),
+        CoreStmtForm::GateAwait(e) => Pieces(Expr(Evaluate, e), own, Nothing),
+        CoreStmtForm::Yield => Pieces(own, Nothing, Nothing),
+        CoreStmtForm::GoCall { callee, operands } => Pieces(
             Task::Callee(callee),
             All(operands, 0),
             own,
         ),
-        CoreStmt::DeferCall { callee, operands } => Pieces(
+        CoreStmtForm::DeferCall { callee, operands } => Pieces(
             Task::Callee(callee),
             All(operands, 0),
             own,
         ),
-        CoreStmt::Return(es) => Pieces(All(es, 0), own, Nothing),
-        CoreStmt::Panic(e) => Pieces(Expr(Evaluate, e), own, Nothing),
-        CoreStmt::Print { operands, .. } => Pieces(All(operands, 0), own, Nothing),
-        CoreStmt::Exit(e) => Pieces(Expr(Evaluate, e), own, Nothing),
-        CoreStmt::Fatal(e) => Pieces(Expr(Evaluate, e), own, Nothing),
+        CoreStmtForm::Return(es) => Pieces(All(es, 0), own, Nothing),
+        CoreStmtForm::Panic(e) => Pieces(Expr(Evaluate, e), own, Nothing),
+        CoreStmtForm::Print { operands, .. } => Pieces(All(operands, 0), own, Nothing),
+        CoreStmtForm::Exit(e) => Pieces(Expr(Evaluate, e), own, Nothing),
+        CoreStmtForm::Fatal(e) => Pieces(Expr(Evaluate, e), own, Nothing),
     }
 }
 

@@ -1,7 +1,8 @@
 //! An expression, opened until nothing is left to be opened, against the order that the Go
 //! specification, "Order of evaluation", has.
 
-use go_core::node::{CoreExpr, CorePlace, GlobalId};
+use go_core::node::GlobalId;
+use go_nodes::leaf;
 use go_tasks::open::open;
 use go_tasks::task::{ExprTask, Pieces, Task};
 use go_type::BOOL;
@@ -43,10 +44,7 @@ fn opened(alloc: Global, first: Task) -> Result<Vec<u8>, AllocError> {
 #[test]
 fn a_place_comes_before_what_lies_there(rt: HostRuntime) -> Result<(), Fail> {
     // It is kept, so that no tree is let go here.
-    let read = ManuallyDrop::new(CoreExpr::Read {
-        ty: BOOL,
-        place: CorePlace::Global(GlobalId(6)),
-    });
+    let read = ManuallyDrop::new(leaf::read_global(rt.alloc(), BOOL, GlobalId(6))?);
     let found = opened(rt.alloc(), Task::Expr(ExprTask::Evaluate, &read))?;
     assert_eq!(rt; found.as_slice(), b"pe".as_slice());
     Ok(())

@@ -1,6 +1,9 @@
+use Rattle.go_core.specs.CoreView.{expr_view}
+use Rattle.go_typing.specs.Answer as tree
 use Rattle.go_answers.specs.AnswerView.{pending_view}
-use Rattle.go_answers.proofs.Numbers.{further_view}
+use Rattle.go_answers.specs.declared.answer.PendingForm.TheVariants as number
+use Rattle.go_answers.proofs.Numbers.{number_made, further_view}
 use Rattle.go_answers.proofs.number.further.Goals as goal
 
-pub returns-in-Ok : goal.returns-in-Ok
-returns-in-Ok c = record { view = λ ts. further_view ts c.args.op c.in-Ok.operand c.args.count (pending_view ts c.args.p) (c.in-Ok.ensures.value ts) }
+pub returns : goal.returns
+returns c = record { view = number_made c.pending.result (number.Further c.args.op c.args.p c.args.count) (λ ts. tree.further c.args.op (pending_view ts c.args.p) (expr_view ts c.args.count)) (λ ts. further_view ts c.args.op c.args.p c.args.count) c.pending.ensures.view }

@@ -1,6 +1,8 @@
+use Rattle.go_typing.specs.Answer as tree
 use Rattle.go_answers.specs.AnswerView.{pending_view}
-use Rattle.go_answers.proofs.Numbers.{signed_view}
+use Rattle.go_answers.specs.declared.answer.PendingForm.TheVariants as number
+use Rattle.go_answers.proofs.Numbers.{number_made, signed_view}
 use Rattle.go_answers.proofs.number.signed.Goals as goal
 
-pub returns-in-Ok : goal.returns-in-Ok
-returns-in-Ok c = record { view = λ ts. signed_view ts c.args.op c.in-Ok.operand (pending_view ts c.args.p) (c.in-Ok.ensures.value ts) }
+pub returns : goal.returns
+returns c = record { view = number_made c.pending.result (number.Signed c.args.op c.args.p) (λ ts. tree.signed c.args.op (pending_view ts c.args.p)) (λ ts. signed_view ts c.args.op c.args.p) c.pending.ensures.view }
