@@ -1,0 +1,3 @@
+pub mod RowLemmas
+pub mod SliceNodes
+pub mod OrderLemmas

@@ -1,0 +1,9 @@
+//! Tests of the crates that have the rows of the typing rules in code.
+#![tactic(auto)]
+
+#[cfg(test)]
+mod indexes;
+#[cfg(test)]
+mod matched;
+#[cfg(test)]
+mod operands;
