@@ -1,0 +1,5 @@
+pub mod FoundLemmas
+pub mod ListLemmas
+pub mod ScalarLemmas
+pub mod SlicedLemmas
+pub mod Steps

@@ -1,0 +1,5 @@
+//! Tests of the crates that have steps of the Go meaning on values in memory.
+#![tactic(auto)]
+
+#[cfg(test)]
+mod slices;
