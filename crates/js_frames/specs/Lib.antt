@@ -1,0 +1,11 @@
+pub mod Moment
+pub mod PartWaits
+pub mod Stack
+pub mod Stands
+pub mod StackLaws
+pub mod StateLaws
+pub mod StepLaws
+pub mod FoundLaws
+pub mod TickLaws
+pub mod PartLaws
+pub mod ChoiceLaws
