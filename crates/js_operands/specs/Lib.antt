@@ -1,0 +1,5 @@
+pub mod Operations
+pub mod Cases
+pub mod VariableLaws
+pub mod SetLaws
+pub mod WayLaws

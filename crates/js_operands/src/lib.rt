@@ -1,0 +1,10 @@
+//! Operations of scripts whose operands are found one after the other. ECMA-262 5.1, cut to a
+//! subset.
+#![tactic(auto)]
+
+pub mod cases;
+pub mod operands;
+pub mod sets;
+#[cfg(test)]
+mod tests;
+pub mod turn;
