@@ -1,0 +1,4 @@
+pub mod FoundLemmas
+pub mod ListLemmas
+pub mod MapLemmas
+pub mod PutLemmas

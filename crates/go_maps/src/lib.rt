@@ -1,0 +1,4 @@
+//! Steps on maps, in code.
+#![tactic(auto)]
+
+pub mod maps;
