@@ -7,3 +7,7 @@ mod indexes;
 mod matched;
 #[cfg(test)]
 mod operands;
+#[cfg(test)]
+mod shifts;
+#[cfg(test)]
+mod sides;
