@@ -1,0 +1,3 @@
+pub mod Caught
+pub mod Others
+pub mod Targets

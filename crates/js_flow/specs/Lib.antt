@@ -1,0 +1,4 @@
+pub mod Returned
+pub mod Back
+pub mod PopLaws
+pub mod FlowLaws
