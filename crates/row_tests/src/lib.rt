@@ -2,6 +2,8 @@
 #![tactic(auto)]
 
 #[cfg(test)]
+mod given;
+#[cfg(test)]
 mod indexes;
 #[cfg(test)]
 mod matched;
@@ -11,3 +13,5 @@ mod operands;
 mod shifts;
 #[cfg(test)]
 mod sides;
+#[cfg(test)]
+mod parts;

@@ -1,0 +1,4 @@
+pub mod GivenLemmas
+pub mod OrderLemmas
+pub mod PassedLemmas
+pub mod ExprsLemmas

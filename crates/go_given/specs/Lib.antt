@@ -1,0 +1,4 @@
+pub mod CallView
+pub mod GivenView
+pub mod Types
+pub mod Passed
