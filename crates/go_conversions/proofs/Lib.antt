@@ -1,0 +1,2 @@
+pub mod ConstLemmas
+pub mod ConversionLemmas
