@@ -12,6 +12,8 @@ mod matched;
 #[cfg(test)]
 mod operands;
 #[cfg(test)]
+mod rows;
+#[cfg(test)]
 mod shifts;
 #[cfg(test)]
 mod sides;

@@ -1,0 +1,151 @@
+//! Rows from the examples of the Go specification (as of Go 1.17), "Operators", "Arithmetic
+//! operators", "Comparison operators", "Logical operators", "Constant expressions".
+
+ghost use Rattle.std.specs.Prelude.{◌≡◌, ◌<◌, IfOk};
+ghost use Rattle.go_type.specs.Table.{size};
+ghost use Rattle.go_rules.specs.Ready.{HasPredeclared};
+ghost use Rattle.go_answers.specs.Below.{AnswerBelow};
+
+use crate::sides::{AT, BYTE, Given, LEFT, RIGHT, Told, first_table, part, told_answer};
+use gj_base::{NoMemory, Op};
+use go_answers::answer::Answer;
+use go_answers::gone::gone_answer;
+use go_operands::boxes::answer_box;
+use go_rows::binary::operator;
+use go_type::TypeTable;
+use std::alloc::Global;
+use std::test::Fail;
+
+fn joined(
+    alloc: Global,
+    table: &TypeTable,
+    op: Op,
+    x: Answer,
+    y: Answer,
+) -> Result<Answer, NoMemory>
+    requires table { HasPredeclared table.now }
+    requires left { AnswerBelow (size table.now) x }
+    requires right { AnswerBelow (size table.now) y }
+    ensures { IfOk result (λ a. AnswerBelow (size table.now) a) }
+{
+    match answer_box(alloc, table, x) {
+        Ok(x) => operator(alloc, table, AT, op, LEFT, x, RIGHT, y),
+        Err(error) => {
+            gone_answer(y);
+            Err(error)
+        }
+    }
+}
+
+fn beside(alloc: Global, table: &TypeTable, op: Op, x: Answer, y: Given) -> Result<Answer, NoMemory>
+    requires table { HasPredeclared table.now }
+    requires left { AnswerBelow (size table.now) x }
+    ensures { IfOk result (λ a. AnswerBelow (size table.now) a) }
+{
+    match part(alloc, table, y) {
+        Ok(y) => joined(alloc, table, op, x, y),
+        Err(error) => {
+            gone_answer(x);
+            Err(error)
+        }
+    }
+}
+
+fn between(alloc: Global, table: &TypeTable, op: Op, x: Given, y: Given) -> Result<Told, NoMemory>
+    requires table { HasPredeclared table.now }
+{
+    match part(alloc, table, x) {
+        Ok(x) => match beside(alloc, table, op, x, y) {
+            Ok(answer) => Ok(told_answer(answer)),
+            Err(error) => Err(error),
+        },
+        Err(error) => Err(error),
+    }
+}
+
+// `1 << x`, where x is a variable.
+fn shifted(alloc: Global, table: &TypeTable) -> Result<Answer, NoMemory>
+    requires table { HasPredeclared table.now }
+    ensures { IfOk result (λ a. AnswerBelow (size table.now) a) }
+{
+    match part(alloc, table, Given::Int(1)) {
+        Ok(one) => beside(alloc, table, Op::Shl, one, Given::IntVar),
+        Err(error) => Err(error),
+    }
+}
+
+// `1 << x` and an operand after an operator.
+fn shifted_and(alloc: Global, table: &TypeTable, op: Op, y: Given) -> Result<Told, NoMemory>
+    requires table { HasPredeclared table.now }
+{
+    match shifted(alloc, table) {
+        Ok(x) => match beside(alloc, table, op, x, y) {
+            Ok(answer) => Ok(told_answer(answer)),
+            Err(error) => Err(error),
+        },
+        Err(error) => Err(error),
+    }
+}
+
+#[test]
+fn arithmetic_of_constants_and_values(rt: HostRuntime) -> Result<(), Fail> {
+    let alloc = rt.alloc();
+    let table = first_table(alloc)?;
+    let sum = between(alloc, &table, Op::Add, Given::Int(1), Given::Rune(97))?;
+    assert_eq!(rt; sum, Told::Rune(98));
+    let one_more = between(alloc, &table, Op::Add, Given::ByteVar, Given::Int(1))?;
+    assert_eq!(rt; one_more, Told::Typed(BYTE));
+    let past = between(alloc, &table, Op::Add, Given::ByteVar, Given::Int(256))?;
+    assert_eq!(rt; past, Told::Fault(32, 20));
+    let truths = between(
+        alloc,
+        &table,
+        Op::Add,
+        Given::Bool(true),
+        Given::Bool(false),
+    )?;
+    assert_eq!(rt; truths, Told::Fault(55, 4));
+    let zero = between(alloc, &table, Op::Div, Given::IntVar, Given::Int(0))?;
+    assert_eq!(rt; zero, Told::Fault(30, 20));
+    let nil = between(alloc, &table, Op::Add, Given::Nil, Given::Int(1))?;
+    assert_eq!(rt; nil, Told::Fault(73, 10));
+    Ok(())
+}
+
+#[test]
+fn comparisons_are_untyped(rt: HostRuntime) -> Result<(), Fail> {
+    let alloc = rt.alloc();
+    let table = first_table(alloc)?;
+    let less = between(alloc, &table, Op::Lt, Given::Int(1), Given::Int(2))?;
+    assert_eq!(rt; less, Told::Bool(true));
+    let equal = between(alloc, &table, Op::Eq, Given::IntVar, Given::Int(1))?;
+    assert_eq!(rt; equal, Told::Truth);
+    let other = between(alloc, &table, Op::Eq, Given::IntVar, Given::ByteVar)?;
+    assert_eq!(rt; other, Told::Fault(55, 4));
+    let both = between(
+        alloc,
+        &table,
+        Op::AndThen,
+        Given::Bool(true),
+        Given::Bool(false),
+    )?;
+    assert_eq!(rt; both, Told::Bool(false));
+    let either = between(alloc, &table, Op::OrElse, Given::IntVar, Given::IntVar)?;
+    assert_eq!(rt; either, Told::Fault(55, 4));
+    Ok(())
+}
+
+#[test]
+fn shifts_of_constants_wait_for_their_type(rt: HostRuntime) -> Result<(), Fail> {
+    let alloc = rt.alloc();
+    let table = first_table(alloc)?;
+    let typed = between(alloc, &table, Op::Shr, Given::ByteVar, Given::Int(2))?;
+    assert_eq!(rt; typed, Told::Typed(BYTE));
+    let sum = shifted_and(alloc, &table, Op::Add, Given::ByteVar)?;
+    assert_eq!(rt; sum, Told::Typed(BYTE));
+    let compared = shifted_and(alloc, &table, Op::Eq, Given::Int(1))?;
+    assert_eq!(rt; compared, Told::Truth);
+    let truth = shifted_and(alloc, &table, Op::Eq, Given::Bool(true))?;
+    assert_eq!(rt; truth, Told::Fault(55, 4));
+    Ok(())
+}
