@@ -2,6 +2,8 @@
 #![tactic(auto)]
 
 #[cfg(test)]
+mod composites;
+#[cfg(test)]
 mod maps;
 #[cfg(test)]
 mod slices;
