@@ -1,0 +1,4 @@
+mod Steps
+mod PopLemmas
+mod ToldLemmas
+mod TargetLemmas
