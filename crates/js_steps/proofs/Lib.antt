@@ -1,0 +1,11 @@
+pub mod Begins
+pub mod Callee
+pub mod Calling
+pub mod Calls
+pub mod Elements
+pub mod Found
+pub mod Leaves
+pub mod Loops
+pub mod On
+pub mod Performed
+pub mod Turned
