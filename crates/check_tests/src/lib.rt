@@ -4,6 +4,8 @@
 #[cfg(test)]
 mod answers;
 #[cfg(test)]
+mod names;
+#[cfg(test)]
 mod rules;
 #[cfg(test)]
 mod scopes;
