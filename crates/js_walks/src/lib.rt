@@ -1,0 +1,11 @@
+//! The steps of a script's run that reach outside: what is printed, and the numbers that are
+//! taken. ECMA-262 5.1, cut to a subset, with functions of the host.
+#![tactic(auto)]
+
+pub mod outside;
+pub mod stop;
+#[cfg(test)]
+mod tests;
+
+pub use outside::{next, picked, written};
+pub use stop::Stop;
