@@ -1,0 +1,4 @@
+mod ListLemmas
+mod ItemLemmas
+mod CountLemmas
+mod ParamLemmas

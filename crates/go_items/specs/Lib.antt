@@ -1,0 +1,3 @@
+pub mod ItemView
+pub mod ParamView
+pub mod MainSearch

@@ -1,0 +1,18 @@
+//! What the files of a package declare, in the order of the files and of their texts.
+//!
+//! The Go Programming Language Specification (as of Go 1.17), "Declarations and scope", "Constant
+//! declarations", "Iota", "Type declarations", "Function types". The definitions stand in go_packages
+//! (`specs/Items.antt`, `specs/Signature.antt`, `specs/Checked.antt`).
+#![tactic(auto)]
+
+pub mod constant;
+pub mod count;
+pub mod item;
+pub mod items;
+pub mod param;
+
+pub use item::Item;
+pub use items::items_of;
+
+#[cfg(test)]
+mod tests;
