@@ -1,3 +1,5 @@
 pub mod Stops
 pub mod Walks
+pub mod Stays
 pub mod WalkLaws
+pub mod GrowthLaws

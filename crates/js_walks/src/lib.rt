@@ -2,10 +2,12 @@
 //! taken. ECMA-262 5.1, cut to a subset, with functions of the host.
 #![tactic(auto)]
 
+pub mod laws;
 pub mod outside;
 pub mod stop;
 #[cfg(test)]
 mod tests;
 
+pub use laws::nothing_taken_back;
 pub use outside::{next, picked, written};
 pub use stop::Stop;

@@ -1,0 +1,10 @@
+//! That nothing is taken back of what was printed. No function here does anything.
+
+ghost use Rattle.js_walks.specs.Stays.{PrintsStay, ReachedBegins};
+
+/// What was printed stays, whatever is left to be done; so what was printed up to a point that a
+/// run has reached begins what is printed in the end.
+pub fn nothing_taken_back()
+    ensures stays { PrintsStay }
+    ensures begins { ReachedBegins }
+{}
