@@ -15,7 +15,6 @@ use Rattle.go_syntax.specs.declared.tree.Sig.{Sig, out-Sig, fold_out-Sig}
 use Rattle.go_packages.specs.Signature as go
 use Rattle.go_packages.specs.Signature.{alone, grouped, next_named, results_in, results_of}
 use Rattle.go_typing.specs.Typing.{place_of}
-use Rattle.go_items.specs.ParamView.{name_alone}
 
 pub param_whole : (p : Param) (rest : tree.Params) → param_view p rest ≡ tree.MoreParams (out-Param p).place (out-Param p).name (out-Param p).variadic (expr_view (out-Param p).ty) rest
 param_whole p rest = search (rules, fold_out-Param)
@@ -63,53 +62,6 @@ type_alone at (tree.FuncType p s) = refl
 type_alone at (tree.InterfaceType p ms) = refl
 type_alone at (tree.MapType p k t) = refl
 type_alone at (tree.ChanType p d t) = refl
-
--- alone, where one follows that has a name and a type: a name, or else a type
-pub named_alone : (at : Place) (e : tree.Expr) (u : go.Typed) (n : Name) → name_alone e ≡ Some n → alone at false e (Some u) ≡ record { place = at; name = Some n; variadic = u.variadic; type_ = u.type_; has_type = false }
-named_alone at (tree.NameExpr p x) u n h = ap (λ (o : Option Name). record { place = at; name = o; variadic = u.variadic; type_ = u.type_; has_type = false }) h
-named_alone at (tree.IntExpr p x) u n h = absurd (cc)
-named_alone at (tree.RuneExpr p x) u n h = absurd (cc)
-named_alone at (tree.StrExpr p x) u n h = absurd (cc)
-named_alone at (tree.ParenExpr p x) u n h = absurd (cc)
-named_alone at (tree.UnaryExpr p op x) u n h = absurd (cc)
-named_alone at (tree.BinaryExpr p x op y) u n h = absurd (cc)
-named_alone at (tree.SelectExpr p x m) u n h = absurd (cc)
-named_alone at (tree.IndexExpr p x i) u n h = absurd (cc)
-named_alone at (tree.SliceExpr p x low high most) u n h = absurd (cc)
-named_alone at (tree.AssertExpr p x t) u n h = absurd (cc)
-named_alone at (tree.CallExpr p f xs spread) u n h = absurd (cc)
-named_alone at (tree.LiteralExpr p t es) u n h = absurd (cc)
-named_alone at (tree.FuncExpr p s b) u n h = absurd (cc)
-named_alone at (tree.ArrayType p m t) u n h = absurd (cc)
-named_alone at (tree.SliceType p t) u n h = absurd (cc)
-named_alone at (tree.StructType p fs) u n h = absurd (cc)
-named_alone at (tree.FuncType p s) u n h = absurd (cc)
-named_alone at (tree.InterfaceType p ms) u n h = absurd (cc)
-named_alone at (tree.MapType p k t) u n h = absurd (cc)
-named_alone at (tree.ChanType p d t) u n h = absurd (cc)
-
-pub unnamed_alone : (at : Place) (e : tree.Expr) (u : go.Typed) → name_alone e ≡ None → alone at false e (Some u) ≡ record { place = at; name = None; variadic = false; type_ = e; has_type = true }
-unnamed_alone at (tree.NameExpr p x) u h = absurd (cc)
-unnamed_alone at (tree.IntExpr p x) u h = refl
-unnamed_alone at (tree.RuneExpr p x) u h = refl
-unnamed_alone at (tree.StrExpr p x) u h = refl
-unnamed_alone at (tree.ParenExpr p x) u h = refl
-unnamed_alone at (tree.UnaryExpr p op x) u h = refl
-unnamed_alone at (tree.BinaryExpr p x op y) u h = refl
-unnamed_alone at (tree.SelectExpr p x m) u h = refl
-unnamed_alone at (tree.IndexExpr p x i) u h = refl
-unnamed_alone at (tree.SliceExpr p x low high most) u h = refl
-unnamed_alone at (tree.AssertExpr p x t) u h = refl
-unnamed_alone at (tree.CallExpr p f xs spread) u h = refl
-unnamed_alone at (tree.LiteralExpr p t es) u h = refl
-unnamed_alone at (tree.FuncExpr p s b) u h = refl
-unnamed_alone at (tree.ArrayType p m t) u h = refl
-unnamed_alone at (tree.SliceType p t) u h = refl
-unnamed_alone at (tree.StructType p fs) u h = refl
-unnamed_alone at (tree.FuncType p s) u h = refl
-unnamed_alone at (tree.InterfaceType p ms) u h = refl
-unnamed_alone at (tree.MapType p k t) u h = refl
-unnamed_alone at (tree.ChanType p d t) u h = refl
 
 -- ---- the place of an expression is that of its node
 
