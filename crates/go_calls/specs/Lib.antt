@@ -1,0 +1,3 @@
+pub mod Function
+pub mod BuiltView
+pub mod CallAs
