@@ -14,10 +14,10 @@ mod matched;
 #[cfg(test)]
 mod operands;
 #[cfg(test)]
+mod parts;
+#[cfg(test)]
 mod rows;
 #[cfg(test)]
 mod shifts;
 #[cfg(test)]
 mod sides;
-#[cfg(test)]
-mod parts;
