@@ -36,7 +36,7 @@ fn converted(alloc: Global, table: &TypeTable, t: TypeId, x: Answer) -> Result<T
 }
 
 #[test]
-fn conversions(rt: HostRuntime) -> Result<(), Fail> {
+fn constants_are_converted(rt: HostRuntime) -> Result<(), Fail> {
     let alloc = rt.alloc();
     let table = first_table(alloc)?;
     let past = converted(alloc, &table, BYTE, int(300))?;
@@ -45,8 +45,22 @@ fn conversions(rt: HostRuntime) -> Result<(), Fail> {
     assert_eq!(rt; held, Told::Int(BYTE, 255));
     let text = converted(alloc, &table, STR, int(65))?;
     assert_eq!(rt; text, Told::Text(STR, 1));
+    Ok(())
+}
+
+#[test]
+fn what_does_not_convert_is_told(rt: HostRuntime) -> Result<(), Fail> {
+    let alloc = rt.alloc();
+    let table = first_table(alloc)?;
     let truth = converted(alloc, &table, BOOL, int(1))?;
     assert_eq!(rt; truth, Told::Fault(58, 10));
+    Ok(())
+}
+
+#[test]
+fn values_are_converted(rt: HostRuntime) -> Result<(), Fail> {
+    let alloc = rt.alloc();
+    let table = first_table(alloc)?;
     let narrow = converted(alloc, &table, BYTE, variable(alloc, INT)?)?;
     assert_eq!(rt; narrow, Told::Typed(BYTE));
     let nil = converted(alloc, &table, INT, Answer::Nil)?;
@@ -74,13 +88,20 @@ fn of_value(alloc: Global, table: &TypeTable, f: Answer) -> Result<Told, NoMemor
 }
 
 #[test]
-fn what_is_no_function(rt: HostRuntime) -> Result<(), Fail> {
+fn a_value_is_no_function(rt: HostRuntime) -> Result<(), Fail> {
     let alloc = rt.alloc();
     let table = first_table(alloc)?;
     let value = of_value(alloc, &table, variable(alloc, INT)?)?;
     assert_eq!(rt; value, Told::Fault(59, 12));
     let constant = of_value(alloc, &table, int(1))?;
     assert_eq!(rt; constant, Told::Fault(59, 12));
+    Ok(())
+}
+
+#[test]
+fn the_blank_name_is_no_function(rt: HostRuntime) -> Result<(), Fail> {
+    let alloc = rt.alloc();
+    let table = first_table(alloc)?;
     let blank = of_value(alloc, &table, Answer::Blank)?;
     assert_eq!(rt; blank, Told::Fault(52, 12));
     let faulty = of_value(alloc, &table, Answer::Unknown)?;

@@ -40,13 +40,20 @@ fn given_to(alloc: Global, table: &TypeTable, parts: Vec<Part>) -> Result<Told, 
 }
 
 #[test]
-fn arguments_are_given(rt: HostRuntime) -> Result<(), Fail> {
+fn each_argument_is_given(rt: HostRuntime) -> Result<(), Fail> {
     let alloc = rt.alloc();
     let table = first_table(alloc)?;
     let each = given_to(alloc, &table, with_text(alloc, int(1))?)?;
     assert_eq!(rt; each, Told::Values(2));
     let ty = given_to(alloc, &table, two(alloc, int(1), Answer::Type(INT))?)?;
     assert_eq!(rt; ty, Told::Fault(52, 30));
+    Ok(())
+}
+
+#[test]
+fn what_is_given_may_be_faulty(rt: HostRuntime) -> Result<(), Fail> {
+    let alloc = rt.alloc();
+    let table = first_table(alloc)?;
     let faulty = given_to(
         alloc,
         &table,
@@ -124,7 +131,7 @@ fn just_one(alloc: Global, table: &TypeTable) -> Result<Told, NoMemory> {
 }
 
 #[test]
-fn arguments_are_values(rt: HostRuntime) -> Result<(), Fail> {
+fn arguments_are_values_of_parameters(rt: HostRuntime) -> Result<(), Fail> {
     let alloc = rt.alloc();
     let table = first_table(alloc)?;
     let fits = at_types(alloc, &table, with_text(alloc, int(1))?)?;
@@ -133,10 +140,24 @@ fn arguments_are_values(rt: HostRuntime) -> Result<(), Fail> {
     assert_eq!(rt; first, Told::Fault(61, 20));
     let second = at_types(alloc, &table, two(alloc, int(1), int(1))?)?;
     assert_eq!(rt; second, Told::Fault(61, 30));
+    Ok(())
+}
+
+#[test]
+fn arguments_are_values_alone(rt: HostRuntime) -> Result<(), Fail> {
+    let alloc = rt.alloc();
+    let table = first_table(alloc)?;
     let each = alone(alloc, &table, with_text(alloc, int(1))?)?;
     assert_eq!(rt; each, Told::Values(2));
     let nil = alone(alloc, &table, two(alloc, int(1), Answer::Nil)?)?;
     assert_eq!(rt; nil, Told::Fault(73, 30));
+    Ok(())
+}
+
+#[test]
+fn one_operand_alone(rt: HostRuntime) -> Result<(), Fail> {
+    let alloc = rt.alloc();
+    let table = first_table(alloc)?;
     let one = just_one(alloc, &table)?;
     assert_eq!(rt; one, Told::Prints(1, false));
     Ok(())

@@ -91,24 +91,28 @@ fn shifted_and(alloc: Global, table: &TypeTable, op: Op, y: Given) -> Result<Tol
 fn arithmetic_of_constants_and_values(rt: HostRuntime) -> Result<(), Fail> {
     let alloc = rt.alloc();
     let table = first_table(alloc)?;
-    let sum = between(alloc, &table, Op::Add, Given::Int(1), Given::Rune(97))?;
-    assert_eq!(rt; sum, Told::Rune(98));
-    let one_more = between(alloc, &table, Op::Add, Given::ByteVar, Given::Int(1))?;
-    assert_eq!(rt; one_more, Told::Typed(BYTE));
-    let past = between(alloc, &table, Op::Add, Given::ByteVar, Given::Int(256))?;
-    assert_eq!(rt; past, Told::Fault(32, 20));
-    let truths = between(
-        alloc,
-        &table,
-        Op::Add,
-        Given::Bool(true),
-        Given::Bool(false),
-    )?;
-    assert_eq!(rt; truths, Told::Fault(55, 4));
-    let zero = between(alloc, &table, Op::Div, Given::IntVar, Given::Int(0))?;
-    assert_eq!(rt; zero, Told::Fault(30, 20));
-    let nil = between(alloc, &table, Op::Add, Given::Nil, Given::Int(1))?;
-    assert_eq!(rt; nil, Told::Fault(73, 10));
+    let rows = [
+        (Op::Add, Given::Int(1), Given::Rune(97), Told::Rune(98)),
+        (Op::Add, Given::ByteVar, Given::Int(1), Told::Typed(BYTE)),
+        (
+            Op::Add,
+            Given::ByteVar,
+            Given::Int(256),
+            Told::Fault(32, 20),
+        ),
+        (
+            Op::Add,
+            Given::Bool(true),
+            Given::Bool(false),
+            Told::Fault(55, 4),
+        ),
+        (Op::Div, Given::IntVar, Given::Int(0), Told::Fault(30, 20)),
+        (Op::Add, Given::Nil, Given::Int(1), Told::Fault(73, 10)),
+    ];
+    for (i, (op, x, y, want)) in rows.iter().enumerate() {
+        let told = between(alloc, &table, *op, *x, *y)?;
+        assert_eq!(rt; told, *want, "row {i}");
+    }
     Ok(())
 }
 
@@ -116,22 +120,22 @@ fn arithmetic_of_constants_and_values(rt: HostRuntime) -> Result<(), Fail> {
 fn comparisons_are_untyped(rt: HostRuntime) -> Result<(), Fail> {
     let alloc = rt.alloc();
     let table = first_table(alloc)?;
-    let less = between(alloc, &table, Op::Lt, Given::Int(1), Given::Int(2))?;
-    assert_eq!(rt; less, Told::Bool(true));
-    let equal = between(alloc, &table, Op::Eq, Given::IntVar, Given::Int(1))?;
-    assert_eq!(rt; equal, Told::Truth);
-    let other = between(alloc, &table, Op::Eq, Given::IntVar, Given::ByteVar)?;
-    assert_eq!(rt; other, Told::Fault(55, 4));
-    let both = between(
-        alloc,
-        &table,
-        Op::AndThen,
-        Given::Bool(true),
-        Given::Bool(false),
-    )?;
-    assert_eq!(rt; both, Told::Bool(false));
-    let either = between(alloc, &table, Op::OrElse, Given::IntVar, Given::IntVar)?;
-    assert_eq!(rt; either, Told::Fault(55, 4));
+    let rows = [
+        (Op::Lt, Given::Int(1), Given::Int(2), Told::Bool(true)),
+        (Op::Eq, Given::IntVar, Given::Int(1), Told::Truth),
+        (Op::Eq, Given::IntVar, Given::ByteVar, Told::Fault(55, 4)),
+        (
+            Op::AndThen,
+            Given::Bool(true),
+            Given::Bool(false),
+            Told::Bool(false),
+        ),
+        (Op::OrElse, Given::IntVar, Given::IntVar, Told::Fault(55, 4)),
+    ];
+    for (i, (op, x, y, want)) in rows.iter().enumerate() {
+        let told = between(alloc, &table, *op, *x, *y)?;
+        assert_eq!(rt; told, *want, "row {i}");
+    }
     Ok(())
 }
 
