@@ -1,0 +1,6 @@
+//! The names that occur in expressions and statements, each of which counts as used there.
+#![tactic(auto)]
+
+pub mod names;
+#[cfg(test)]
+mod tests;
