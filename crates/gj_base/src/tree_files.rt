@@ -246,24 +246,33 @@ mod tests {
     }
 
     #[test]
-    fn calls_fail_by_their_numbers(rt: HostRuntime) -> Result<(), Fail> {
+    fn the_second_list_fails(rt: HostRuntime) -> Result<(), Fail> {
         let mut files = three_files(rt.alloc())?;
         files.fail(1, 0)?;
-        files.fail(3, 0)?;
-        files.fail(5, 9)?;
-        files.fail(5, 2)?;
         assert_eq!(rt; files.list(rt.alloc(), "app")?.len(), 2);
         let list = files.list(rt.alloc(), "app").map(|n| n.len());
-        assert_eq!(rt; list, Err(FileError::Failed), "call 1");
+        assert_eq!(rt; list, Err(FileError::Failed));
+        Ok(())
+    }
+
+    #[test]
+    fn the_second_read_is_the_third_call(rt: HostRuntime) -> Result<(), Fail> {
+        let mut files = three_files(rt.alloc())?;
+        files.fail(2, 0)?;
+        assert_eq!(rt; files.list(rt.alloc(), "app")?.len(), 2);
         assert_eq!(rt; files.read(rt.alloc(), "app/a.go", 9)?.len(), 2);
         let read = files.read(rt.alloc(), "app/a.go", 9).map(|b| b.len());
-        assert_eq!(rt; read, Err(FileError::Failed), "call 3");
+        assert_eq!(rt; read, Err(FileError::Failed));
+        Ok(())
+    }
+
+    #[test]
+    fn the_second_store_stops_after_two_bytes(rt: HostRuntime) -> Result<(), Fail> {
+        let mut files = three_files(rt.alloc())?;
+        files.fail(1, 9)?;
+        files.fail(1, 2)?;
         files.store("out.js", b"old")?;
-        assert_eq!(rt;
-            files.store("out.js", b"script"),
-            Err(StoreError::Failed),
-            "call 5"
-        );
+        assert_eq!(rt; files.store("out.js", b"script"), Err(StoreError::Failed));
         assert_eq!(rt; files.bytes("out.js").ok_or("out")?, b"sc".as_slice());
         files.store("out.js", b"script")?;
         assert_eq!(rt; files.bytes("out.js").ok_or("out")?, b"script".as_slice());
