@@ -116,19 +116,19 @@ module _ (env : Env) (stack : List Frame) (s s1 : State) (taken : List ℕ) (at 
   }
 
   -- the sink refuses
-  pub refused_write : (u : Use) (k k1 : SinkState) (x : SinkError) (r : Result Task Stop) → Writes (Err x) text.now k k1 → IsErrAnd r (λ y. y ≡ sink_stop x)
+  pub refused_write : (u : Use) (k k1 : SinkState) (x : SinkError) (r : Result Task Stop) → Ticked s s1 (Ok tt) → Writes (Err x) text.now k k1 → IsErrAnd r (λ y. y ≡ sink_stop x)
       → Walks env stack s taken taken k k1 stack s1 r (λ st. task_does st (next.Write at u text))
-  refused_write u k k1 x (Ok y) w is = absurd is
-  refused_write u k k1 sink_error.Failed (Err y) w is = record {
+  refused_write u k k1 x (Ok y) ticked w is = absurd is
+  refused_write u k k1 sink_error.Failed (Err y) ticked w is = record {
     numbers = [];
     took = sym (append-nil taken);
     goes = λ script choices fuel b vs program h a.
         let st = setting script choices fuel in
         let t : Task = next.Write at u text in
         subst (λ (z : Stop). Goes script choices fuel b (resume st stack vs.callers (task_does st t (moment b vs s))) [] k k1 stack s1 (Err z)) (sym is)
-        (k, (at, u, text, record { before = b; moves = moves_none b k; stack = stack; state = s; leads = goes script choices fuel b vs stack s t h }, w));
+        (k, (at, u, text, record { before = b; moves = moves_none b k; stack = stack; state = s; leads = goes script choices fuel b vs stack s t h }, omega (arith, ticked.0), w));
   }
-  refused_write u k k1 sink_error.NoMemory (Err y) w is = record {
+  refused_write u k k1 sink_error.NoMemory (Err y) ticked w is = record {
     numbers = [];
     took = sym (append-nil taken);
     goes = λ script choices fuel b vs program h a.

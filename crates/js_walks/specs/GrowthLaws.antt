@@ -1,6 +1,7 @@
 -- What was printed stays: each part of a script, each frame and the whole stack take none of it back.
-use Rattle.std.proofs.Common.{◌≡◌, refl, ap, sym, ◌∙◌, subst, ℕ, List, [], ◌∷◌, ◌++◌, append_assoc, zero, suc, Option, Some, None, Bool, true, false, cond, slice_get, codes}
+use Rattle.std.proofs.Common.{◌≡◌, ◌<◌, refl, ap, sym, ◌∙◌, subst, arith, ℕ, List, [], ◌∷◌, ◌++◌, append_assoc, zero, suc, Option, Some, None, Bool, true, false, cond, slice_get, codes}
 use Rattle.std.specs.Prelude.{pos}
+use Rattle.std.specs.Borrow.{Bor}
 use Rattle.std.proofs.lemmas.List.{append-nil}
 use Rattle.gj_base.specs.Counts.{Begins}
 use Rattle.js_tree.specs.Script.{Name, Expr, unary, binary, both, either, choice, call, index, length_of, pop, char_code_at, substring, decimal_of, from_char_code, Stmt, declare, assign, store, perform, push, remove, branch, while, forever, switch, return, throw, Stmts, Else, no_else, else_block, else_if, Cases, no_cases, default, case, ScriptTree}
@@ -22,7 +23,7 @@ use Rattle.js_frames.specs.declared.frame.Task.{Task}
 use Rattle.js_frames.specs.declared.frame.Task.TheVariants as next
 use Rattle.js_frames.specs.PartWaits.{turn_does, expr_first, stmt_first, else_first, first_does, second_does, third_does, callee_does}
 use Rattle.js_frames.specs.Stands.{moment}
-use Rattle.js_walks.specs.Stays.{Later, world_at, PrintsStay, ReachedBegins}
+use Rattle.js_walks.specs.Stays.{Later, world_at, PrintsStay, ReachedBegins, TextBegins}
 use Rattle.js_frames.specs.Stack.{left, back_in, caller_moment, caught_before, handled, turned, loop_label, label_of, frame_does, first_of, after_frame, resume, task_does}
 
 pub later_same : (w : World) → Later w w
@@ -371,3 +372,25 @@ prints_stay script choices fuel stack callers t m =
 pub reached_begins : ReachedBegins
 reached_begins script choices fuel b all numbers sink sink' t r =
     subst (λ (o : Out). Begins r.before.printed (world_at o).printed) r.leads.is (prints_stay script choices fuel r.stack r.leads.variables.callers t (moment r.before r.leads.variables r.state))
+
+-- a text is printed, where a tick is left
+text_later : (m : Moment) (at : ℕ) (u : Use) (text : Bor (List ℕ)) → 0 < m.world.left
+    → Begins (m.world.printed ++ text.now) (world_at (called_here at u m (written at (bytes text.now ∷ []) m.world))).printed
+text_later m at u text l = by m.world.left refl l
+  where
+    by : (n : ℕ) → m.world.left ≡ n → 0 < n → Begins (m.world.printed ++ text.now) (world_at (called_here at u m (written at (bytes text.now ∷ []) m.world))).printed
+    by zero e l = absurd (omega (arith, l))
+    by (suc n) e l =
+        let w : World = record m.world { left = n; printed = m.world.printed ++ text.now } in
+        let c : Called = gives None w in
+        let q : written at (bytes text.now ∷ []) m.world ≡ c = ap (λ (k : ℕ). let x : Called = and_then (tick_from k m.world) (λ _ v. let y : Called = gives None (record v { printed = v.printed ++ text.now }) in y) in x) e in
+        subst (λ (x : Called). Later w (world_at (called_here at u m x))) (sym q) (called_later m at u w c (later_same w))
+
+pub text_begins : TextBegins
+text_begins script choices fuel b all numbers sink sink' at u text r l =
+    let st = setting script choices fuel in
+    let m = moment r.before r.leads.variables r.state in
+    let o = task_does st (next.Write at u text) m in
+    let w : World = record m.world { printed = m.world.printed ++ text.now } in
+    subst (λ (x : Out). Begins (r.before.printed ++ text.now) (world_at x).printed) r.leads.is
+    (later_then w (world_at o) (world_at (resume st r.stack r.leads.variables.callers o)) (text_later m at u text l) (resume_later script choices fuel r.stack r.leads.variables.callers o))

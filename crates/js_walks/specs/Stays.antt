@@ -1,5 +1,6 @@
 -- Own: what was printed stays, whatever is left to be done.
-use Rattle.std.specs.Prelude.{ℕ, List}
+use Rattle.std.specs.Prelude.{◌<◌, ◌++◌, ℕ, List}
+use Rattle.std.specs.Borrow.{Bor}
 use Rattle.gj_base.specs.Counts.{Begins}
 use Rattle.gj_base.specs.Sink.{SinkState}
 use Rattle.js_tree.specs.Script.{ScriptTree}
@@ -7,6 +8,8 @@ use Rattle.js_tree.specs.Value.{World, Locals, gives, throws, over}
 use Rattle.js_tree.specs.Evaluate.{setting}
 use Rattle.js_frames.specs.declared.frame.Frame.{Frame}
 use Rattle.js_frames.specs.declared.frame.Task.{Task}
+use Rattle.js_frames.specs.declared.frame.Task.TheVariants.{Write}
+use Rattle.js_frames.specs.declared.frame.Use.{Use}
 use Rattle.js_frames.specs.Moment.{Moment, Out}
 use Rattle.js_frames.specs.Stack.{resume, task_does}
 use Rattle.js_frames.specs.Stands.{Before}
@@ -33,3 +36,9 @@ abbrev pub ReachedBegins : Type 0
 ReachedBegins =
     (script : ScriptTree) (choices : List ℕ) (fuel : ℕ) (b : Before) (all : Out) (numbers : List ℕ) (sink sink' : SinkState) (t : Task) (r : Reaches script choices fuel b all numbers sink sink' t)
     → Begins r.before.printed (world_at all).printed
+
+-- the same with a text that was to be printed then, with a tick left for it
+abbrev pub TextBegins : Type 0
+TextBegins =
+    (script : ScriptTree) (choices : List ℕ) (fuel : ℕ) (b : Before) (all : Out) (numbers : List ℕ) (sink sink' : SinkState) (at : ℕ) (u : Use) (text : Bor (List ℕ))
+    (r : Reaches script choices fuel b all numbers sink sink' (Write at u text)) → 0 < r.state.left → Begins (r.before.printed ++ text.now) (world_at all).printed

@@ -71,7 +71,7 @@ agrees_second choices place next ns ms e a = λ i l.
     let q : next + i ≡ place + (length ns + i) = omega (arith, e) in
     ap (choice_number choices) q ∙ a (length ns + i) k ∙ get_or-append-add ns ms i 0
 
-reaches_then : (script : ScriptTree) (choices : List ℕ) (fuel : ℕ) (b b1 : Before) (all : Out) (ns ms : List ℕ) (k k1 k2 : SinkState) (t : Task) → Moves b b1 ns k k1
+abbrev reaches_then : (script : ScriptTree) (choices : List ℕ) (fuel : ℕ) (b b1 : Before) (all : Out) (ns ms : List ℕ) (k k1 k2 : SinkState) (t : Task) → Moves b b1 ns k k1
     → Reaches script choices fuel b1 all ms k1 k2 t → Reaches script choices fuel b all (ns ++ ms) k k2 t
 reaches_then script choices fuel b b1 all ns ms k k1 k2 t h r =
     record { before = r.before; moves = moves_then b b1 r.before ns ms k k1 k2 h r.moves; stack = r.stack; state = r.state; leads = r.leads }
@@ -82,7 +82,7 @@ goes_then : (script : ScriptTree) (choices : List ℕ) (fuel : ℕ) (b b1 : Befo
 goes_then script choices fuel b b1 all ns ms k k1 k2 stack s (Ok t) h g = (g.0, moves_then b b1 g.0 ns ms k k1 k2 h g.1, g.2)
 goes_then script choices fuel b b1 all ns ms k k1 k2 stack s (Err (Over e)) h g = (g.0, moves_then b b1 g.0 ns ms k k1 k2 h g.1, g.2)
 goes_then script choices fuel b b1 all ns ms k k1 k2 stack s (Err WriteFault) h g =
-    (g.0, (g.1.0, g.1.1, g.1.2, reaches_then script choices fuel b b1 all ns ms k k1 g.0 _ h g.1.3, g.1.4))
+    (g.0, (g.1.0, g.1.1, g.1.2, reaches_then script choices fuel b b1 all ns ms k k1 g.0 _ h g.1.3, g.1.4, g.1.5))
 goes_then script choices fuel b b1 all ns ms k k1 k2 stack s (Err NoMemory) h g = (g.0, (g.1.0, reaches_then script choices fuel b b1 all ns ms k k1 g.0 g.1.0 h g.1.1, g.1.2))
 
 -- nothing was done yet

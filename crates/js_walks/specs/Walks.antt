@@ -42,13 +42,13 @@ pub record KeptIn (sink sink' : SinkState) : Type 0 where
   pub bytes : sink'.bytes ≡ sink.bytes
   pub faults : sink'.faults ≡ sink.faults
 
--- after the steps all that is left to be done is what was; or the run is over; or the sink failed in a text that was to be printed then; or memory was refused at some point that the steps had reached
+-- after the steps all that is left to be done is what was; or the run is over; or the sink failed in a text that was to be printed then, with a tick left for it; or memory was refused at some point that the steps had reached
 abbrev pub Goes : ScriptTree → List ℕ → ℕ → Before → Out → (numbers : List ℕ) → (sink sink' : SinkState) → List Frame → State → Result Task Stop → Type 0
 Goes script choices fuel b all numbers sink sink' stack s (Ok t) = (b' : Before) × Moves b b' numbers sink sink' × Leads script choices fuel b' all stack s t
 Goes script choices fuel b all numbers sink sink' stack s (Err (Over e)) =
     (b' : Before) × Moves b b' numbers sink sink' × ((vs : Variables) × (over (end_of e) (world_of b' vs s) ≡ all))
 Goes script choices fuel b all numbers sink sink' stack s (Err WriteFault) =
-    (sink1 : SinkState) × ((at : ℕ) × (u : Use) × (text : Bor (List ℕ)) × Reaches script choices fuel b all numbers sink sink1 (Write at u text) × FailedIn text.now sink1 sink')
+    (sink1 : SinkState) × ((at : ℕ) × (u : Use) × (text : Bor (List ℕ)) × (r : Reaches script choices fuel b all numbers sink sink1 (Write at u text)) × (0 < r.state.left) × FailedIn text.now sink1 sink')
 Goes script choices fuel b all numbers sink sink' stack s (Err NoMemory) =
     (sink1 : SinkState) × ((t : Task) × Reaches script choices fuel b all numbers sink sink1 t × KeptIn sink1 sink')
 

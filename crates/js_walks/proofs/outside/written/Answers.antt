@@ -19,5 +19,5 @@ returns-in_err-tick g c = record {
 pub returns-in_err-write : goal.returns-in_err-write
 returns-in_err-write g c = record {
   keeps = λ env stack taken.
-      refused_write env stack c.args.state.now c.tick.new.state taken c.args.at c.args.text c.args.usage _ _ _ c.from_residual-in_err-write.result c.in_err-write.ensures c.from_residual-in_err-write.ensures.1;
+      refused_write env stack c.args.state.now c.tick.new.state taken c.args.at c.args.text c.args.usage _ _ _ c.from_residual-in_err-write.result c.in_ok-tick.ensures.ticks c.in_err-write.ensures c.from_residual-in_err-write.ensures.1;
 }
