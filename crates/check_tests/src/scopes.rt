@@ -205,3 +205,47 @@ fn rune_literals(rt: HostRuntime) {
     assert!(rt; rune_value("本".as_bytes()) == 26412);
     assert!(rt; rune_value("😀".as_bytes()) == 128512);
 }
+
+// The offset where a name is declared in the innermost scope, or 0.
+fn offset_here(env: &Env, name: &[u8]) -> u32 {
+    match env.place(name) {
+        Some(place) => place.offset,
+        None => 0,
+    }
+}
+
+// The offset of the innermost declaration of a name, or 1 where there is none.
+fn offset_of(env: &Env, name: &[u8]) -> u32 {
+    match env.origin(name) {
+        Some(place) => place.offset,
+        None => 1,
+    }
+}
+
+fn nested(alloc: Global, env: &mut Env) -> Result<(), Fail> {
+    enter(alloc, env, b"p")?;
+    declare(alloc, env, b"x", 4)?;
+    declare(alloc, env, b"y", 6)?;
+    env.push()?;
+    declare(alloc, env, b"x", 8)?;
+    Ok(())
+}
+
+#[test]
+fn declarations_have_places(rt: HostRuntime) -> Result<(), Fail> {
+    let mut env = new_env(rt.alloc())?;
+    nested(rt.alloc(), &mut env)?;
+    let here = [offset_here(&env, b"x"), offset_here(&env, b"y")];
+    let there = [offset_of(&env, b"x"), offset_of(&env, b"y")];
+    let others = [offset_of(&env, b"len"), offset_of(&env, b"iota")];
+    env.count(Some(2));
+    let counted = offset_of(&env, b"iota");
+    env.pop();
+    let outside = offset_here(&env, b"x");
+    assert!(rt; here == [8, 0]);
+    assert!(rt; there == [8, 6]);
+    assert!(rt; others == [0, 1]);
+    assert!(rt; counted == 0);
+    assert!(rt; outside == 4);
+    Ok(())
+}

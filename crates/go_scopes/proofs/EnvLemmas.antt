@@ -1,6 +1,6 @@
 -- What the calls of an environment do with ids is what go_typing's scopes do with trees.
 use Rattle.std.proofs.Common.{arith, ◌∙◌, refl, sym, ap, subst, cond}
-use Rattle.std.specs.Prelude.{◌≡◌, ◌<◌, ◌≤◌, ℕ, pos, negsuc, List, [], ◌∷◌, ◌++◌, Option, Some, None, Bool, true, false, bytes_eq, codes, map, option_map, length}
+use Rattle.std.specs.Prelude.{◌≡◌, ◌<◌, ℕ, pos, List, [], ◌∷◌, ◌++◌, Option, Some, None, Bool, true, false, bytes_eq, codes, map, option_map, length}
 use Rattle.std.proofs.lemmas.List.{map-append}
 use Rattle.gj_base.specs.declared.place.Place.{Place}
 use Rattle.go_const.specs.declared.constant.Const.TheVariants as form

@@ -1,6 +1,6 @@
 -- What scopes hold, from the entries of their maps.
 use Rattle.std.proofs.Common.{arith, ◌∙◌, refl, sym, ap, subst, true≢false, cond, take, drop}
-use Rattle.std.specs.Prelude.{◌≡◌, ◌<◌, ◌≤◌, ◌+◌, ◌-◌, ℕ, zero, suc, List, [], ◌∷◌, ◌++◌, Option, Some, None, Bool, true, false, bytes_eq, length, map, option_map, get_or, slice_set, is_some, Vec}
+use Rattle.std.specs.Prelude.{◌≡◌, ◌<◌, ◌≤◌, ◌-◌, ℕ, zero, suc, List, [], ◌∷◌, ◌++◌, Option, Some, None, Bool, true, false, bytes_eq, length, map, option_map, get_or, slice_set, is_some, Vec}
 use Rattle.std.specs.Map.{lookup, set_value}
 use Rattle.std.proofs.lemmas.Slice.Eq.{bytes_eq-Decides}
 use Rattle.std.specs.declared.alloc.Global.{Global}

@@ -6,3 +6,4 @@ pub mod UniverseLemmas
 pub mod EnvLemmas
 pub mod LiteralLemmas
 pub mod AnswerLemmas
+pub mod OriginLemmas

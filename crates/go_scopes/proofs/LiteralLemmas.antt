@@ -3,7 +3,7 @@ use Rattle.std.proofs.Common.{arith, ◌∙◌, refl, sym, ap, cond, drop, get_o
 use Rattle.std.proofs.Math.Seq.{drop-cons}
 use Rattle.std.specs.Prelude.{◌≡◌, ◌≤◌, ◌<◌, ◌+◌, ◌*◌, ◌==◌, ◌^◌, ℕ, zero, suc, List, [], ◌∷◌, Bool, true, false, nat_lt}
 use Rattle.std.proofs.lemmas.Bool.Decides.{nat_tests}
-use Rattle.go_typing.specs.Literal.{digit_of, digits_from, after_zero, int_value}
+use Rattle.go_typing.specs.Literal.{digit_of, digits_from}
 use Rattle.go_scopes.specs.Whole.{cut}
 
 module _ (limit : ℕ) where

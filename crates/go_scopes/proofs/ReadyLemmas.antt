@@ -18,7 +18,7 @@ use Rattle.go_type.specs.Levels.{tree_of}
 use Rattle.go_type.specs.Predeclared.{predeclared, error_interface}
 use Rattle.go_type.specs.Table.{places, size, KeepsTrees}
 use Rattle.go_rules.specs.Ready.{HasPredeclared}
-use Rattle.go_scopes.specs.Ready.{is_error, is_like, AllLike, Begins}
+use Rattle.go_scopes.specs.Ready.{is_error, is_like, Begins}
 
 first_true : (a b : Bool) → (a && b) ≡ true → a ≡ true
 first_true true b h = refl

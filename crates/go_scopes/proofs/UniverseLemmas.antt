@@ -1,15 +1,12 @@
 -- The universe scope that is held is that of go_typing.
-use Rattle.std.proofs.Common.{arith, ◌∙◌, refl, sym, ap}
-use Rattle.std.specs.Prelude.{◌≡◌, ℕ, List, [], ◌∷◌, ◌++◌, Some, None, map}
-use Rattle.go_type.specs.Tree as ty
-use Rattle.go_type.specs.Tree.{Ty}
-use Rattle.go_type.specs.Levels.{tree_of}
+use Rattle.std.proofs.Common.{arith, ◌∙◌, refl}
+use Rattle.std.specs.Prelude.{◌≡◌, List, [], ◌∷◌, ◌++◌, None}
 use Rattle.go_type.specs.Predeclared.{predeclared}
 use Rattle.go_type.specs.declared.types.TypeId.{TypeId}
 use Rattle.go_type.specs.Table.{places, size}
 use Rattle.go_type.specs.declared.table.TypeTable.{TypeTable}
 use Rattle.go_rules.specs.Ready.{HasPredeclared}
-use Rattle.go_typing.specs.Env.{universe, Bind}
+use Rattle.go_typing.specs.Env.{universe}
 use Rattle.go_scopes.specs.Held.{Held}
 use Rattle.go_scopes.specs.View.{binds_of}
 use Rattle.go_scopes.specs.Within.{HeldsBelow}

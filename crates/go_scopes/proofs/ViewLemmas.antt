@@ -1,7 +1,6 @@
 -- What scopes with ids do is what scopes with trees do.
-use Rattle.std.proofs.Common.{arith, ◌∙◌, refl, sym, ap, subst, cond, append_assoc}
-use Rattle.std.specs.Prelude.{◌≡◌, ◌<◌, ◌≤◌, ℕ, List, [], ◌∷◌, ◌++◌, Option, Some, None, Bool, true, false, bytes_eq, map, option_map}
-use Rattle.std.specs.List.{AllByRecursion}
+use Rattle.std.proofs.Common.{◌∙◌, refl, sym, ap, cond}
+use Rattle.std.specs.Prelude.{◌≡◌, ◌<◌, ℕ, List, [], ◌∷◌, ◌++◌, Option, Some, None, Bool, true, false, bytes_eq, map, option_map}
 use Rattle.std.proofs.lemmas.List.{map-append}
 use Rattle.gj_base.specs.declared.place.Place.{Place}
 use Rattle.go_type.specs.Tree.{Ty, more_tys}
@@ -12,7 +11,7 @@ use Rattle.go_typing.specs.Env.{Decl, Bind, find, or_in, lookup}
 use Rattle.go_typing.specs.Scopes.{PackageScope, scope_of, has_package, with_package, without_last, last_changed, package_changed, last_scope, place_in, with_bind, settle_in}
 use Rattle.go_scopes.specs.declared.declared.Declared.{Declared}
 use Rattle.go_scopes.specs.declared.declared.Declared.TheVariants as as_
-use Rattle.go_scopes.specs.Held.{Held, HeldPackage, what_in, place_held, add_at, declare_held, settle_held, first_of, seek, last_with, last_of, without_innermost, held_at, has_held, enter_held, package_with}
+use Rattle.go_scopes.specs.Held.{Held, HeldPackage, what_in, place_held, settle_held, first_of, seek, last_with, last_of, without_innermost, held_at, has_held, enter_held, package_with}
 use Rattle.go_scopes.specs.View.{decl_of, bind_of, binds_of, package_of}
 use Rattle.go_scopes.specs.Within.{DeclaredBelow, HeldsBelow, ScopesBelow, PackagesBelow}
 

@@ -1,7 +1,6 @@
 -- The types that declarations speak of stay among those of the table.
-use Rattle.std.proofs.Common.{arith, refl, sym, ap, subst, cond}
-use Rattle.std.specs.Prelude.{◌≡◌, ◌<◌, ◌≤◌, ℕ, List, [], ◌∷◌, ◌++◌, Option, Some, None, Bool, true, false, bytes_eq}
-use Rattle.std.specs.List.{AllByRecursion}
+use Rattle.std.proofs.Common.{arith, cond}
+use Rattle.std.specs.Prelude.{◌<◌, ◌≤◌, ℕ, List, [], ◌∷◌, ◌++◌, Option, Some, None, Bool, true, false, bytes_eq}
 use Rattle.gj_base.specs.declared.place.Place.{Place}
 use Rattle.go_type.specs.Levels.{IdsBelow}
 use Rattle.go_type.specs.declared.types.TypeId.{TypeId}

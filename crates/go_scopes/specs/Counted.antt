@@ -1,7 +1,9 @@
 -- Own: what `iota` is held as.
-use Rattle.std.specs.Prelude.{◌≡◌, ℕ, pos, negsuc, List, Option, Some, None, codes, bytes_eq, if◌then◌else◌}
-use Rattle.std.specs.Coded.{Unit-prop, le_prop, Coded-set, coded_ℕ}
+use Rattle.std.specs.Prelude.{◌≡◌, ℕ, pos, List, Option, Some, None, codes, bytes_eq, if◌then◌else◌}
+use Rattle.std.specs.Coded.{Unit-prop, Coded-set, coded_ℕ}
+use Rattle.gj_base.specs.declared.place.Place.{Place}
 use Rattle.go_const.specs.declared.constant.Const.TheVariants as form
+use Rattle.go_typing.specs.Env.{nowhere}
 use Rattle.go_scopes.specs.declared.declared.Declared.{Declared}
 use Rattle.go_scopes.specs.declared.declared.Declared.TheVariants as as_
 
@@ -34,3 +36,11 @@ number_of (Some d) = number_in d
 -- what the name stands for, if it is `iota`
 abbrev pub what_named : List ℕ → Option Declared → Option Declared
 what_named x o = if bytes_eq x (codes "iota") then o else None
+
+-- where it stands
+abbrev pub place_of : Option Declared → Option Place
+place_of None = None
+place_of (Some d) = Some nowhere
+
+abbrev pub place_named : List ℕ → Option Declared → Option Place
+place_named x o = place_of (what_named x o)

@@ -9,7 +9,7 @@ use Rattle.go_type.specs.declared.table.TypeTable.{TypeTable}
 use Rattle.go_typing.specs.Scopes as scopes
 use Rattle.go_scopes.specs.declared.declared.Declared.{Declared}
 use Rattle.go_scopes.specs.declared.env.Env.{Env}
-use Rattle.go_scopes.specs.Held.{HeldPackage, what_in, held_at}
+use Rattle.go_scopes.specs.Held.{HeldPackage, what_in, place_held, held_at}
 use Rattle.go_scopes.specs.Holds.{held, held_blocks, held_packages}
 use Rattle.go_scopes.specs.Counted.{number_of}
 use Rattle.go_scopes.specs.View.{binds_of, package_of}
@@ -51,3 +51,8 @@ KeepsRest old new = (table_of new ≡ table_of old) × KeepsLiterals old new
 abbrev pub what_current : List ℕ → Option (List ℕ) → List HeldPackage → Option Declared
 what_current x None ps = None
 what_current x (Some path) ps = what_in x (held_at path ps)
+
+-- own: where it is declared there
+abbrev pub place_current : List ℕ → Option (List ℕ) → List HeldPackage → Option Place
+place_current x None ps = None
+place_current x (Some path) ps = place_held x (held_at path ps)

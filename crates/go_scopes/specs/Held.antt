@@ -43,6 +43,15 @@ abbrev pub seek : List ℕ → List (List Held) → Option Declared
 seek x [] = None
 seek x (s ∷ ss) = first_of (seek x ss) (what_in x s)
 
+abbrev pub first_place : Option Place → Option Place → Option Place
+first_place (Some at) o = Some at
+first_place None o = o
+
+-- where its innermost declaration stands
+abbrev pub sought : List ℕ → List (List Held) → Option Place
+sought x [] = None
+sought x (s ∷ ss) = first_place (sought x ss) (place_held x s)
+
 -- the innermost scope changes so
 abbrev pub last_with : (List Held → List Held) → List (List Held) → List (List Held)
 last_with change [] = []

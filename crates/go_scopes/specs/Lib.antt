@@ -1,4 +1,5 @@
 pub mod Held
+pub mod Origin
 pub mod Holds
 pub mod View
 pub mod Counted

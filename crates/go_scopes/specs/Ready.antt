@@ -1,5 +1,5 @@
 -- Own: that a table begins with the predeclared types (go_rules, specs/Ready), by a test of each.
-use Rattle.std.specs.Prelude.{◌≡◌, ℕ, ◌<◌, ◌≤◌, ◌==◌, ◌&&◌, [], Bool, true, false, codes, bytes_eq}
+use Rattle.std.specs.Prelude.{◌≡◌, ◌<◌, ◌≤◌, ◌==◌, ◌&&◌, [], Bool, true, false, codes, bytes_eq}
 use Rattle.go_type.specs.Same.{int_code, basis_code}
 use Rattle.go_type.specs.Tree.{Ty, bool, str, int, nil, untyped, interface, named, no_tys, more_tys, no_specs, more_specs}
 use Rattle.go_type.specs.Levels.{tree_of}

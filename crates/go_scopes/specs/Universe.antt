@@ -1,5 +1,5 @@
 -- Own: the universe scope of go_typing's specs/Env, with the ids that predeclared types have in each table.
-use Rattle.std.specs.Prelude.{ℕ, List, [], ◌∷◌, ◌++◌, Bool, true, false, codes, fold}
+use Rattle.std.specs.Prelude.{ℕ, List, [], ◌∷◌, ◌++◌, Bool, true, false, codes}
 use Rattle.go_const.specs.declared.constant.Const.TheVariants as form
 use Rattle.go_type.specs.declared.types.TypeId.{TypeId}
 use Rattle.go_typing.specs.Env.{nowhere}

@@ -1,6 +1,5 @@
 -- What an environment of the code stands for: the environment of go_typing's specs/Scopes.
-use Rattle.std.specs.Prelude.{ℕ, List, Option, Some, None, map}
-use Rattle.go_const.specs.declared.constant.Const.TheVariants as form
+use Rattle.std.specs.Prelude.{List, map}
 use Rattle.go_type.specs.Tree.{Ty}
 use Rattle.go_type.specs.Levels.{tree_of, trees_of}
 use Rattle.go_typing.specs.Env.{Decl, Bind, variable, global, constant, type_name, function, imported, built_in, nil_value, refused, unknown}

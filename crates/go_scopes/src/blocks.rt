@@ -1,7 +1,7 @@
 //! The scopes that are open inside a package, from the outside in.
 
 ghost use Rattle.std.specs.Prelude.{◌≡◌, ◌<◌, ◌++◌, [], ◌∷◌, IsTrue, IfOk, OnOk, OnErr, length, option_map};
-ghost use Rattle.go_scopes.specs.Held.{seek, last_with, last_of, place_held, declare_held, settle_held, without_innermost};
+ghost use Rattle.go_scopes.specs.Held.{seek, sought, last_with, last_of, place_held, declare_held, settle_held, without_innermost};
 ghost use Rattle.go_scopes.specs.Holds.{held_blocks};
 
 use crate::declared::Declared;
@@ -68,6 +68,29 @@ impl Blocks {
             }
         }
         None
+    }
+
+    /// Where the innermost declaration of a name stands.
+    pub fn origin(&self, name: &[u8]) -> Option<Place>
+        ensures value { result ≡ sought name.now (held_blocks self.now) }
+    {
+        let mut i = self.scopes.len();
+        while i > 0 {
+            i -= 1;
+            if let Some(place) = self.scopes[i].place(name) {
+                return Some(place);
+            }
+        }
+        None
+    }
+
+    /// Where a name is declared in the innermost scope.
+    pub fn place(&self, name: &[u8]) -> Option<Place>
+        requires { 0 < length (held_blocks self.now) }
+        ensures value { result ≡ place_held name.now (last_of (held_blocks self.now)) }
+    {
+        let last = self.scopes.len() - 1;
+        self.scopes[last].place(name)
     }
 
     /// Declares a name in the innermost scope.

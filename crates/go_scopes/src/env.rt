@@ -55,7 +55,8 @@ impl Env {
     ghost use Rattle.go_typing.specs.Scopes.{new_env, visible, entered, pushed, popped, counting, innermost, place_in, declared, settled};
     ghost use Rattle.go_scopes.specs.View.{decl_of, bind_of};
     ghost use Rattle.go_scopes.specs.Within.{DeclaredBelow};
-    ghost use Rattle.go_scopes.specs.EnvView.{table_of, env_of, number_at, same_place, what_current, with_types, KeepsRest, KeepsLiterals};
+    ghost use Rattle.go_scopes.specs.EnvView.{table_of, env_of, number_at, same_place, what_current, place_current, with_types, KeepsRest, KeepsLiterals};
+    ghost use Rattle.go_scopes.specs.Origin.{origin};
 
     /// The universe scope alone. The table begins with the predeclared types, as each does that
     /// `TypeTable::new` gave.
@@ -188,6 +189,46 @@ impl Env {
     {
         match &self.current {
             Some(path) => self.packages.find(path.as_bytes(), name),
+            None => None,
+        }
+    }
+
+    /// Where a name is declared in the innermost scope.
+    pub fn place(&self, name: &[u8]) -> Option<Place>
+        ensures value { result ≡ place_in name.now (innermost (env_of self.now)) }
+    {
+        if self.blocks.len() > 0 {
+            return self.blocks.place(name);
+        }
+        match &self.current {
+            Some(path) => self.packages.place(path.as_bytes(), name),
+            None => self.universe.place(name),
+        }
+    }
+
+    /// Where the declaration stands that a name stands for: the innermost one. Predeclared names stand
+    /// nowhere, which is the start of the first file.
+    pub fn origin(&self, name: &[u8]) -> Option<Place>
+        ensures value { result ≡ origin name.now (visible (env_of self.now)) }
+    {
+        if let Some(place) = self.blocks.origin(name) {
+            return Some(place);
+        }
+        if let Some(place) = self.place_in_package(name) {
+            return Some(place);
+        }
+        if let Some(place) = self.universe.place(name) {
+            return Some(place);
+        }
+        self.iota.place(name)
+    }
+
+    // Where a name is declared in the scope of the package.
+    fn place_in_package(&self, name: &[u8]) -> Option<Place>
+        ensures value { result ≡ place_current name.now self.now.current (held_packages self.now.packages) }
+    {
+        match &self.current {
+            Some(path) => self.packages.place(path.as_bytes(), name),
             None => None,
         }
     }

@@ -3,9 +3,10 @@
 //! Go, "Iota".
 
 ghost use Rattle.std.specs.Prelude.{◌≡◌, pos, Some, None, IsTrue, ◌↔◌, codes, bytes_eq, option_map};
-ghost use Rattle.go_scopes.specs.Counted.{Counts, Counts-prop, number_of, what_named};
+ghost use Rattle.go_scopes.specs.Counted.{Counts, Counts-prop, number_of, what_named, place_named};
 
 use crate::declared::Declared;
+use gj_base::Place;
 use go_const::Const;
 use go_type::types::TypeId;
 
@@ -38,5 +39,15 @@ impl Iota {
             return self.what.as_ref();
         }
         None
+    }
+
+    /// Where the name stands, if it is `iota`: nowhere, as each predeclared name.
+    pub fn place(&self, name: &[u8]) -> Option<Place>
+        ensures value { result ≡ place_named name.now self.now.what }
+    {
+        match self.find(name) {
+            Some(_) => Some(Place { file: 0, offset: 0 }),
+            None => None,
+        }
     }
 }

@@ -50,6 +50,16 @@ impl Packages {
         }
     }
 
+    /// Where a name is declared in the scope of a package.
+    pub fn place(&self, path: &[u8], name: &[u8]) -> Option<Place>
+        ensures value { result ≡ place_held name.now (held_at path.now (held_packages self.now)) }
+    {
+        match self.scopes.get(path) {
+            Some(scope) => scope.place(name),
+            None => None,
+        }
+    }
+
     /// Declares a name in the scope of a package, if there is one.
     pub fn declare(
         &mut self,

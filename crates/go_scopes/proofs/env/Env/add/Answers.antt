@@ -1,5 +1,4 @@
-use Rattle.std.proofs.Common.{◌∙◌, ap, sym, subst}
-use Rattle.go_type.specs.Table.{size, places, names}
+use Rattle.go_type.specs.Table.{size, places}
 use Rattle.go_scopes.specs.Holds.{held, held_blocks, held_packages}
 use Rattle.go_scopes.specs.Counted.{number_of}
 use Rattle.go_scopes.proofs.ReadyLemmas.{begins-kept}

@@ -2,10 +2,10 @@ use Rattle.std.proofs.Common.{arith, ◌≡◌, ◌∙◌, ap, sym, subst}
 use Rattle.std.specs.Prelude.{◌<◌, ℕ, List, Option, length}
 use Rattle.gj_base.specs.declared.place.Place.{Place}
 use Rattle.go_type.specs.Table.{size, places, names}
-use Rattle.go_scopes.specs.Held.{Held, HeldPackage, place_held, declare_held, settle_held, last_with, last_of, held_at, package_with}
+use Rattle.go_scopes.specs.Held.{Held, HeldPackage, place_held, declare_held, last_of, held_at, package_with}
 use Rattle.go_scopes.specs.Holds.{held, held_blocks, held_packages}
 use Rattle.go_scopes.specs.Counted.{number_of}
-use Rattle.go_scopes.specs.Within.{HeldsBelow, ScopesBelow, PackagesBelow}
+use Rattle.go_scopes.specs.Within.{ScopesBelow, PackagesBelow}
 use Rattle.go_scopes.proofs.AnswerLemmas.{if_ok, on_ok, either}
 use Rattle.go_scopes.proofs.WithinLemmas.{declare-below, last-below, package-below}
 use Rattle.go_scopes.proofs.EnvLemmas.{made, place-blocks, place-current, place-none, declare-blocks, declare-current, declare-none}

@@ -1,19 +1,19 @@
 use Rattle.std.proofs.Common.{arith, ◌≡◌, ◌∙◌, ap, sym, subst}
-use Rattle.std.specs.Prelude.{Option, Some, None, option_map}
+use Rattle.std.specs.Prelude.{Option, option_map}
 use Rattle.std.specs.Borrow.{Bor}
 use Rattle.go_type.specs.Tree as ty
 use Rattle.go_type.specs.Levels.{tree_of}
 use Rattle.go_type.specs.declared.types.Basis.TheVariants as basis
 use Rattle.go_type.specs.Table.{size, places, names}
 use Rattle.go_scopes.specs.declared.declared.Declared.{Declared}
-use Rattle.go_scopes.specs.Held.{first_of, seek, what_in}
+use Rattle.go_scopes.specs.Held.{first_of, what_in}
 use Rattle.go_scopes.specs.Holds.{held, held_blocks, held_packages}
 use Rattle.go_scopes.specs.Counted.{what_named}
 use Rattle.go_scopes.specs.EnvView.{what_current}
 use Rattle.go_scopes.specs.View.{decl_of}
 use Rattle.go_scopes.proofs.ReadyLemmas.{has}
 use Rattle.go_scopes.proofs.WithinLemmas.{SomeBelow, seek-below, current-below, what-below}
-use Rattle.go_scopes.proofs.EnvLemmas.{sought, looks-up, map-map}
+use Rattle.go_scopes.proofs.EnvLemmas.{looks-up, map-map}
 use Rattle.go_scopes.proofs.env.Env.lookup.Goals as goal
 
 pub returns-in-Some-clause-value : goal.returns-in-Some-clause-value

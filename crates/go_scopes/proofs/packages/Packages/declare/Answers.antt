@@ -1,4 +1,4 @@
-use Rattle.std.proofs.Common.{◌≡◌, ◌∙◌, ap, sym, refl, map}
+use Rattle.std.proofs.Common.{◌∙◌, ap, sym, refl, map}
 use Rattle.std.specs.Prelude.{List, Option}
 use Rattle.gj_base.specs.declared.place.Place.{Place}
 use Rattle.go_scopes.specs.Held.{Held, place_held, declare_held}

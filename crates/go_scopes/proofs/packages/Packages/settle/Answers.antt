@@ -1,4 +1,4 @@
-use Rattle.std.proofs.Common.{◌≡◌, ◌∙◌, ap, sym, map}
+use Rattle.std.proofs.Common.{◌∙◌, ap, sym, map}
 use Rattle.go_scopes.specs.Held.{settle_held}
 use Rattle.go_scopes.specs.Holds.{held_package}
 use Rattle.go_scopes.proofs.HeldLemmas.{package-set, package-none}

@@ -1,4 +1,4 @@
-use Rattle.std.proofs.Common.{◌≡◌, ◌∙◌, ap, sym, map, None}
+use Rattle.std.proofs.Common.{◌≡◌, ◌∙◌, ap, map, None}
 use Rattle.go_scopes.specs.Held.{place_held}
 use Rattle.go_scopes.specs.Holds.{held, held_of}
 use Rattle.go_scopes.proofs.HeldLemmas.{declare-new}

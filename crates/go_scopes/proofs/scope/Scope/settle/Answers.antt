@@ -1,5 +1,5 @@
-use Rattle.std.proofs.Common.{◌≡◌, ◌∙◌, ap, sym, map, None}
-use Rattle.go_scopes.specs.Holds.{held, held_of}
+use Rattle.std.proofs.Common.{◌∙◌, ap, sym, map}
+use Rattle.go_scopes.specs.Holds.{held_of}
 use Rattle.go_scopes.proofs.HeldLemmas.{settle-set, settle-none}
 use Rattle.go_scopes.proofs.scope.Scope.settle.Goals as goal
 
