@@ -1,0 +1,4 @@
+mod CalleeLemmas
+mod FormLemmas
+mod JoinLemmas
+mod GivesLemmas
