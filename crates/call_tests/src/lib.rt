@@ -1,0 +1,5 @@
+//! Tests of the crates that have variables and calls of the Go meaning.
+#![tactic(auto)]
+
+#[cfg(test)]
+mod bindings;
