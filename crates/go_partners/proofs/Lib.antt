@@ -1,0 +1,4 @@
+pub mod Only
+pub mod WaitLemmas
+pub mod ReadyLemmas
+pub mod GateLemmas
