@@ -1,5 +1,6 @@
 -- What parts do, as the definitions say of what they stand for.
 use Rattle.std.specs.Prelude.{ℕ, List, ◌++◌, Some, Bool}
+use Rattle.js_tree.specs.Script.{Expr, Exprs}
 use Rattle.js_tree.specs.Value.{Value, World, Outcome, gives, and_then}
 use Rattle.js_tree.specs.Evaluate.{eval, eval_all, truth_of}
 use Rattle.js_code.specs.Held.{part_of}
@@ -7,6 +8,17 @@ use Rattle.js_code.specs.Parts.{as_expr, expr_at, exprs_at, tree_of, trees_of}
 use Rattle.js_code.specs.declared.part.Part.{Part}
 use Rattle.js_simple.specs.declared.state.Context.{Context}
 use Rattle.js_simple.specs.Seen.{Point}
+
+-- the expression that a part of a context's code stands for
+abbrev pub expr_in : Context → ℕ → Expr
+expr_in c i = expr_at (trees_of c.code.now) i
+
+abbrev pub exprs_in : Context → ℕ → Exprs
+exprs_in c i = exprs_at (trees_of c.code.now) i
+
+-- the value of an expression
+abbrev pub value_does : Expr → Point → World → Outcome World Value
+value_does e p w = eval p.setting p.scope p.locals e w
 
 -- the value of the expression that a part stands for
 abbrev pub eval_at : Context → ℕ → Point → World → Outcome World Value

@@ -1,10 +1,15 @@
-//! The values of expressions without calls: ECMA-262 5.1, 11. One arm a form.
+//! The values of expressions without calls: ECMA-262 5.1, 11. One function a form.
 
+ghost use Rattle.std.specs.Prelude.{[]};
+ghost use Rattle.js_tree.specs.Evaluate as part;
+ghost use Rattle.js_tree.specs.Script as form;
+ghost use Rattle.js_tree.specs.Value as run;
+ghost use Rattle.js_slots.specs.Slots as slots;
 ghost use Rattle.js_heap.specs.Seen.{value_of, values_of};
-ghost use Rattle.js_simple.specs.Seen.{Does};
+ghost use Rattle.js_simple.specs.Seen.{Anywhere, Changes, Does, slots_in};
 ghost use Rattle.js_code.specs.Held.{part_of};
 ghost use Rattle.js_simple.specs.Simple.{IsSimpleAt, AreSimpleAt, IsSimplePart};
-ghost use Rattle.js_simple.specs.PartDoes.{eval_at, eval_all_at, condition_at, eval_part};
+ghost use Rattle.js_simple.specs.PartDoes.{eval_at, eval_all_at, condition_at, eval_part, expr_in, exprs_in, value_does};
 
 use crate::list::cell_at;
 use crate::operate::{allocate, binary, given, number, pop, slot_value, truth_of};
@@ -14,6 +19,7 @@ use js_code::Part;
 use js_heap::heap::{self, Object};
 use js_heap::operate::{char_code, decimal_text, one_byte, part_of, unary_value};
 use js_heap::value::Value;
+use js_tree::{BinaryOp, UnaryOp};
 
 /// The number beside the name of a function of the host, under which a run keeps no function.
 pub const HOST: u32 = 4294967295;
@@ -54,7 +60,272 @@ fn condition<'a>(
     truth_of(at, v)
 }
 
-// The value of what one part stands for.
+// What a local holds.
+fn local<'a>(c: &Context<'_, 'a>, at: u32, slot: u32) -> Result<Value<'a>, Halt>
+    ensures value { Anywhere value_of result (run.given at (slots.slot_value (slots_in c.now.locals.now) slot)) }
+{
+    given(at, slot_value(c.locals, slot))
+}
+
+// What a variable of the top level holds.
+fn global<'a>(c: &Context<'_, 'a>, at: u32, slot: u32) -> Result<Value<'a>, Halt>
+    ensures value { Anywhere value_of result (run.given at (slots.slot_value (slots_in c.now.globals.now) slot)) }
+{
+    given(at, slot_value(c.globals, slot))
+}
+
+// A new dictionary: 11.1.5.
+fn dictionary<'a>(c: &Context<'_, 'a>, objects: &mut Vec<Object<'a>>) -> Result<Value<'a>, Halt>
+    ensures value { Changes value_of result objects.old.items objects.new.items (part.allocated (run.entries [])) }
+{
+    let entries = Box::new(c.alloc, IndexMap::new(c.alloc))?;
+    allocate(objects, Object::Entries(entries))
+}
+
+// An operator before an expression: 11.4.
+#[cycle(eval)]
+fn unary<'a>(
+    c: &Context<'_, 'a>,
+    objects: &mut Vec<Object<'a>>,
+    depth: u32,
+    at: u32,
+    op: UnaryOp,
+    e: u32,
+) -> Result<Value<'a>, Halt>
+    requires simple { IsSimpleAt c.now.code.now e }
+    ensures value { Does c.now value_of result objects.old.items objects.new.items (value_does (form.unary at op (expr_in c.now e))) }
+{
+    let v = eval(c, objects, depth, e)?;
+    given(at, unary_value(op, v))
+}
+
+// An operator between two expressions: 11.5 to 11.10.
+#[cycle(eval)]
+fn operator<'a>(
+    c: &Context<'_, 'a>,
+    objects: &mut Vec<Object<'a>>,
+    depth: u32,
+    at: u32,
+    op: BinaryOp,
+    left: u32,
+    right: u32,
+) -> Result<Value<'a>, Halt>
+    requires left { IsSimpleAt c.now.code.now left }
+    requires right { IsSimpleAt c.now.code.now right }
+    ensures value { Does c.now value_of result objects.old.items objects.new.items (value_does (form.binary at op (expr_in c.now left) (expr_in c.now right))) }
+{
+    let u = eval(c, objects, depth, left)?;
+    let v = eval(c, objects, depth, right)?;
+    binary(c.arena, objects.as_slice(), at, op, u, v)
+}
+
+// Both of two conditions: 11.11.
+#[cycle(eval)]
+fn both<'a>(
+    c: &Context<'_, 'a>,
+    objects: &mut Vec<Object<'a>>,
+    depth: u32,
+    at: u32,
+    left: u32,
+    right: u32,
+) -> Result<Value<'a>, Halt>
+    requires left { IsSimpleAt c.now.code.now left }
+    requires right { IsSimpleAt c.now.code.now right }
+    ensures value { Does c.now value_of result objects.old.items objects.new.items (value_does (form.both at (expr_in c.now left) (expr_in c.now right))) }
+{
+    if condition(c, objects, depth, at, left)? {
+        return eval(c, objects, depth, right);
+    }
+    Ok(Value::Truth(false))
+}
+
+// One of two conditions: 11.11.
+#[cycle(eval)]
+fn either<'a>(
+    c: &Context<'_, 'a>,
+    objects: &mut Vec<Object<'a>>,
+    depth: u32,
+    at: u32,
+    left: u32,
+    right: u32,
+) -> Result<Value<'a>, Halt>
+    requires left { IsSimpleAt c.now.code.now left }
+    requires right { IsSimpleAt c.now.code.now right }
+    ensures value { Does c.now value_of result objects.old.items objects.new.items (value_does (form.either at (expr_in c.now left) (expr_in c.now right))) }
+{
+    if condition(c, objects, depth, at, left)? {
+        return Ok(Value::Truth(true));
+    }
+    eval(c, objects, depth, right)
+}
+
+// The one of two expressions that a condition chooses: 11.12.
+#[cycle(eval)]
+fn choice<'a>(
+    c: &Context<'_, 'a>,
+    objects: &mut Vec<Object<'a>>,
+    depth: u32,
+    at: u32,
+    test: u32,
+    left: u32,
+    right: u32,
+) -> Result<Value<'a>, Halt>
+    requires test { IsSimpleAt c.now.code.now test }
+    requires left { IsSimpleAt c.now.code.now left }
+    requires right { IsSimpleAt c.now.code.now right }
+    ensures value { Does c.now value_of result objects.old.items objects.new.items (value_does (form.choice at (expr_in c.now test) (expr_in c.now left) (expr_in c.now right))) }
+{
+    if condition(c, objects, depth, at, test)? {
+        return eval(c, objects, depth, left);
+    }
+    eval(c, objects, depth, right)
+}
+
+// An element: 11.2.1.
+#[cycle(eval)]
+fn index<'a>(
+    c: &Context<'_, 'a>,
+    objects: &mut Vec<Object<'a>>,
+    depth: u32,
+    at: u32,
+    e: u32,
+    i: u32,
+) -> Result<Value<'a>, Halt>
+    requires e { IsSimpleAt c.now.code.now e }
+    requires i { IsSimpleAt c.now.code.now i }
+    ensures value { Does c.now value_of result objects.old.items objects.new.items (value_does (form.index at (expr_in c.now e) (expr_in c.now i))) }
+{
+    let u = eval(c, objects, depth, e)?;
+    let v = eval(c, objects, depth, i)?;
+    given(at, heap::element(objects.as_slice(), u, v))
+}
+
+// The length of an array or a string: 15.4.5.2, 15.5.5.1.
+#[cycle(eval)]
+fn length_of<'a>(
+    c: &Context<'_, 'a>,
+    objects: &mut Vec<Object<'a>>,
+    depth: u32,
+    at: u32,
+    e: u32,
+) -> Result<Value<'a>, Halt>
+    requires simple { IsSimpleAt c.now.code.now e }
+    ensures value { Does c.now value_of result objects.old.items objects.new.items (value_does (form.length_of at (expr_in c.now e))) }
+{
+    let v = eval(c, objects, depth, e)?;
+    given(at, heap::length_value(objects.as_slice(), v))
+}
+
+// The last element of an array, which is taken: 15.4.4.6.
+#[cycle(eval)]
+fn popped<'a>(
+    c: &Context<'_, 'a>,
+    objects: &mut Vec<Object<'a>>,
+    depth: u32,
+    at: u32,
+    e: u32,
+) -> Result<Value<'a>, Halt>
+    requires simple { IsSimpleAt c.now.code.now e }
+    ensures value { Does c.now value_of result objects.old.items objects.new.items (value_does (form.pop at (expr_in c.now e))) }
+{
+    let v = eval(c, objects, depth, e)?;
+    pop(objects, at, v)
+}
+
+// A byte of a string: 15.5.4.5.
+#[cycle(eval)]
+fn char_code_at<'a>(
+    c: &Context<'_, 'a>,
+    objects: &mut Vec<Object<'a>>,
+    depth: u32,
+    at: u32,
+    e: u32,
+    i: u32,
+) -> Result<Value<'a>, Halt>
+    requires e { IsSimpleAt c.now.code.now e }
+    requires i { IsSimpleAt c.now.code.now i }
+    ensures value { Does c.now value_of result objects.old.items objects.new.items (value_does (form.char_code_at at (expr_in c.now e) (expr_in c.now i))) }
+{
+    let u = eval(c, objects, depth, e)?;
+    let v = eval(c, objects, depth, i)?;
+    given(at, char_code(u, v))
+}
+
+// A part of a string: 15.5.4.15.
+#[cycle(eval)]
+fn substring<'a>(
+    c: &Context<'_, 'a>,
+    objects: &mut Vec<Object<'a>>,
+    depth: u32,
+    at: u32,
+    e: u32,
+    from: u32,
+    to: u32,
+) -> Result<Value<'a>, Halt>
+    requires e { IsSimpleAt c.now.code.now e }
+    requires from { IsSimpleAt c.now.code.now from }
+    requires to { IsSimpleAt c.now.code.now to }
+    ensures value { Does c.now value_of result objects.old.items objects.new.items (value_does (form.substring at (expr_in c.now e) (expr_in c.now from) (expr_in c.now to))) }
+{
+    let u = eval(c, objects, depth, e)?;
+    let v = eval(c, objects, depth, from)?;
+    let x = eval(c, objects, depth, to)?;
+    let text = part_of(c.arena, u, v, x)?;
+    given(at, text)
+}
+
+// The decimal text of a number: 15.7.4.2.
+#[cycle(eval)]
+fn decimal<'a>(
+    c: &Context<'_, 'a>,
+    objects: &mut Vec<Object<'a>>,
+    depth: u32,
+    at: u32,
+    e: u32,
+) -> Result<Value<'a>, Halt>
+    requires simple { IsSimpleAt c.now.code.now e }
+    ensures value { Does c.now value_of result objects.old.items objects.new.items (value_does (form.decimal_of at (expr_in c.now e))) }
+{
+    let v = eval(c, objects, depth, e)?;
+    let text = decimal_text(c.arena, v)?;
+    given(at, text)
+}
+
+// A string of one byte: 15.5.3.2.
+#[cycle(eval)]
+fn from_char_code<'a>(
+    c: &Context<'_, 'a>,
+    objects: &mut Vec<Object<'a>>,
+    depth: u32,
+    at: u32,
+    e: u32,
+) -> Result<Value<'a>, Halt>
+    requires simple { IsSimpleAt c.now.code.now e }
+    ensures value { Does c.now value_of result objects.old.items objects.new.items (value_does (form.from_char_code at (expr_in c.now e))) }
+{
+    let v = eval(c, objects, depth, e)?;
+    let text = one_byte(c.arena, v)?;
+    given(at, text)
+}
+
+// A new array: 11.1.4.
+#[cycle(eval)]
+fn array<'a>(
+    c: &Context<'_, 'a>,
+    objects: &mut Vec<Object<'a>>,
+    depth: u32,
+    items: u32,
+) -> Result<Value<'a>, Halt>
+    requires simple { AreSimpleAt c.now.code.now items }
+    ensures value { Does c.now value_of result objects.old.items objects.new.items (value_does (form.array 0 (exprs_in c.now items))) }
+{
+    let mut values = Vec::new(c.alloc);
+    eval_onto(c, objects, depth, &mut values, items)?;
+    allocate(objects, Object::Items(values))
+}
+
+// The value of what one part stands for. The compiler sets the locals of all arms at each call, so
+// an arm that has some is a function of its own.
 #[cycle(eval)]
 fn evaluate<'a>(
     c: &Context<'_, 'a>,
@@ -71,92 +342,35 @@ fn evaluate<'a>(
         Part::Bool { b, .. } => Ok(Value::Truth(b)),
         Part::Null { .. } => Ok(Value::Nothing),
         Part::Caught { at, .. } => given(at, c.caught),
-        Part::Local { at, slot, .. } => given(at, slot_value(c.locals, slot)),
-        Part::Global { at, slot, .. } => given(at, slot_value(c.globals, slot)),
+        Part::Local { at, slot, .. } => local(c, at, slot),
+        Part::Global { at, slot, .. } => global(c, at, slot),
         Part::Function { number, x, .. } => Ok(Value::Function(number, x)),
         Part::Host { x, .. } => Ok(Value::Function(HOST, x)),
         Part::Nowhere { at, .. } => Err(Halt::Stuck(at)),
-        Part::Unary { at, op, e } => {
-            let v = eval(c, objects, depth, e)?;
-            given(at, unary_value(op, v))
-        }
+        Part::Unary { at, op, e } => unary(c, objects, depth, at, op, e),
         Part::Binary {
             at,
             op,
             left,
             right,
-        } => {
-            let u = eval(c, objects, depth, left)?;
-            let v = eval(c, objects, depth, right)?;
-            binary(c.arena, objects.as_slice(), at, op, u, v)
-        }
-        Part::And { at, left, right } => {
-            if condition(c, objects, depth, at, left)? {
-                return eval(c, objects, depth, right);
-            }
-            Ok(Value::Truth(false))
-        }
-        Part::Or { at, left, right } => {
-            if condition(c, objects, depth, at, left)? {
-                return Ok(Value::Truth(true));
-            }
-            eval(c, objects, depth, right)
-        }
+        } => operator(c, objects, depth, at, op, left, right),
+        Part::And { at, left, right } => both(c, objects, depth, at, left, right),
+        Part::Or { at, left, right } => either(c, objects, depth, at, left, right),
         Part::Conditional {
             at,
             test,
             left,
             right,
-        } => {
-            if condition(c, objects, depth, at, test)? {
-                return eval(c, objects, depth, left);
-            }
-            eval(c, objects, depth, right)
-        }
-        Part::Index { at, e, i } => {
-            let u = eval(c, objects, depth, e)?;
-            let v = eval(c, objects, depth, i)?;
-            given(at, heap::element(objects.as_slice(), u, v))
-        }
-        Part::Length { at, e } => {
-            let v = eval(c, objects, depth, e)?;
-            given(at, heap::length_value(objects.as_slice(), v))
-        }
-        Part::Pop { at, e } => {
-            let v = eval(c, objects, depth, e)?;
-            pop(objects, at, v)
-        }
-        Part::CharCodeAt { at, e, i } => {
-            let u = eval(c, objects, depth, e)?;
-            let v = eval(c, objects, depth, i)?;
-            given(at, char_code(u, v))
-        }
-        Part::Substring { at, e, from, to } => {
-            let u = eval(c, objects, depth, e)?;
-            let v = eval(c, objects, depth, from)?;
-            let x = eval(c, objects, depth, to)?;
-            let text = part_of(c.arena, u, v, x)?;
-            given(at, text)
-        }
-        Part::Array { items, .. } => {
-            let mut values = Vec::new(c.alloc);
-            eval_onto(c, objects, depth, &mut values, items)?;
-            allocate(objects, Object::Items(values))
-        }
-        Part::Dictionary { .. } => {
-            let entries = Box::new(c.alloc, IndexMap::new(c.alloc))?;
-            allocate(objects, Object::Entries(entries))
-        }
-        Part::Decimal { at, e } => {
-            let v = eval(c, objects, depth, e)?;
-            let text = decimal_text(c.arena, v)?;
-            given(at, text)
-        }
-        Part::FromCharCode { at, e } => {
-            let v = eval(c, objects, depth, e)?;
-            let text = one_byte(c.arena, v)?;
-            given(at, text)
-        }
+        } => choice(c, objects, depth, at, test, left, right),
+        Part::Index { at, e, i } => index(c, objects, depth, at, e, i),
+        Part::Length { at, e } => length_of(c, objects, depth, at, e),
+        Part::Pop { at, e } => popped(c, objects, depth, at, e),
+        Part::CharCodeAt { at, e, i } => char_code_at(c, objects, depth, at, e, i),
+        Part::Substring { at, e, from, to } => substring(c, objects, depth, at, e, from, to),
+        Part::Array { items, .. } => array(c, objects, depth, items),
+        Part::Dictionary { .. } => dictionary(c, objects),
+        Part::Decimal { at, e } => decimal(c, objects, depth, at, e),
+        Part::FromCharCode { at, e } => from_char_code(c, objects, depth, at, e),
         Part::Call { .. } => unreachable!(),
         _ => Ok(Value::Nothing),
     }

@@ -1,4 +1,4 @@
-use Rattle.std.proofs.Common.{◌≡◌, ◌∙◌, sym, ap, arith, rules, [], ◌∷◌, Some}
+use Rattle.std.proofs.Common.{◌∙◌, sym, ap, arith, [], ◌∷◌, Some}
 use Rattle.std.proofs.lemmas.List.{map-append}
 use Rattle.js_slots.specs.declared.place.Place.TheVariants.{Caught, Local, Global, Nowhere}
 use Rattle.js_code.specs.Held.{part_of}
@@ -39,10 +39,10 @@ pub evaluate-returns-in-Caught : goal.evaluate-returns-in-Caught
 evaluate-returns-in-Caught t c = record { value = λ p s. name_does c.args.c.now p _ c.args.part c.in-Caught.at c.in-Caught.x.now Caught _ s c.requires.simple (ap part_of c.in-Caught.is) (c.given.ensures.value _) }
 
 pub evaluate-returns-in-Local : goal.evaluate-returns-in-Local
-evaluate-returns-in-Local t c = record { value = λ p s. name_does c.args.c.now p _ c.args.part c.in-Local.at c.in-Local.x.now (Local c.in-Local.slot) _ s c.requires.simple (ap part_of c.in-Local.is) (rw (← c.slot_value.ensures.value) (c.given-in-Local.ensures.value _)) }
+evaluate-returns-in-Local t c = record { value = λ p s. name_does c.args.c.now p _ c.args.part c.in-Local.at c.in-Local.x.now (Local c.in-Local.slot) _ s c.requires.simple (ap part_of c.in-Local.is) (c.local.ensures.value _) }
 
 pub evaluate-returns-in-Global : goal.evaluate-returns-in-Global
-evaluate-returns-in-Global t c = record { value = λ p s. name_does c.args.c.now p _ c.args.part c.in-Global.at c.in-Global.x.now (Global c.in-Global.slot) _ s c.requires.simple (ap part_of c.in-Global.is) (rw (← c.slot_value-in-Global.ensures.value) (c.given-in-Global.ensures.value _)) }
+evaluate-returns-in-Global t c = record { value = λ p s. name_does c.args.c.now p _ c.args.part c.in-Global.at c.in-Global.x.now (Global c.in-Global.slot) _ s c.requires.simple (ap part_of c.in-Global.is) (c.global.ensures.value _) }
 
 pub evaluate-returns-in-Function : goal.evaluate-returns-in-Function
 evaluate-returns-in-Function t c = record { value = λ p s. function_is c.args.c.now p _ c.args.part c.in-Function.at c.in-Function.number c.in-Function.x.now s c.requires.simple (ap part_of c.in-Function.is) }
@@ -52,111 +52,6 @@ evaluate-returns-in-Host t c = record { value = λ p s. host_is c.args.c.now p _
 
 pub evaluate-returns-in-Nowhere : goal.evaluate-returns-in-Nowhere
 evaluate-returns-in-Nowhere t c = record { value = λ p s. name_is c.args.c.now p _ c.args.part c.in-Nowhere.at c.in-Nowhere.x.now Nowhere s c.requires.simple (ap part_of c.in-Nowhere.is) }
-
-pub evaluate-returns-in_err-v-in-Unary : goal.evaluate-returns-in_err-v-in-Unary
-evaluate-returns-in_err-v-in-Unary t c = record { value = λ p s. part_is c.args.c.now c.args.part _ _ p _ _ c.in-Unary.is (stopped _ c.from_residual.result _ _ _ c.from_residual.ensures.1 (stops_then _ _ _ _ (c.in_err-v-in-Unary.ensures.value p s))) }
-
-pub evaluate-returns-in_err-v-in-Length : goal.evaluate-returns-in_err-v-in-Length
-evaluate-returns-in_err-v-in-Length t c = record { value = λ p s. part_is c.args.c.now c.args.part _ _ p _ _ c.in-Length.is (stopped _ c.from_residual-in_err-v-in-Length.result _ _ _ c.from_residual-in_err-v-in-Length.ensures.1 (stops_then _ _ _ _ (c.in_err-v-in-Length.ensures.value p s))) }
-
-pub evaluate-returns-in_err-v-in-Pop : goal.evaluate-returns-in_err-v-in-Pop
-evaluate-returns-in_err-v-in-Pop t c = record { value = λ p s. part_is c.args.c.now c.args.part _ _ p _ _ c.in-Pop.is (stopped _ c.from_residual-in_err-v-in-Pop.result _ _ _ c.from_residual-in_err-v-in-Pop.ensures.1 (stops_then _ _ _ _ (c.in_err-v-in-Pop.ensures.value p s))) }
-
-pub evaluate-returns-in_err-v-in-Decimal : goal.evaluate-returns-in_err-v-in-Decimal
-evaluate-returns-in_err-v-in-Decimal t c = record { value = λ p s. part_is c.args.c.now c.args.part _ _ p _ _ c.in-Decimal.is (stopped _ c.from_residual-in_err-v-in-Decimal.result _ _ _ c.from_residual-in_err-v-in-Decimal.ensures.1 (stops_then _ _ _ _ (c.in_err-v-in-Decimal.ensures.value p s))) }
-
-pub evaluate-returns-in_err-v-in-FromCharCode : goal.evaluate-returns-in_err-v-in-FromCharCode
-evaluate-returns-in_err-v-in-FromCharCode t c = record { value = λ p s. part_is c.args.c.now c.args.part _ _ p _ _ c.in-FromCharCode.is (stopped _ c.from_residual-in_err-v-in-FromCharCode.result _ _ _ c.from_residual-in_err-v-in-FromCharCode.ensures.1 (stops_then _ _ _ _ (c.in_err-v-in-FromCharCode.ensures.value p s))) }
-
-pub evaluate-returns-in_ok-v-in-Unary : goal.evaluate-returns-in_ok-v-in-Unary
-evaluate-returns-in_ok-v-in-Unary t c = record { value = λ p s. part_is c.args.c.now c.args.part _ _ p _ _ c.in-Unary.is (value_goes _ _ _ _ _ _ _ (c.in_ok-v-in-Unary.ensures.value p s) (rw (← c.unary_value.ensures.value) (c.given-in-Unary.ensures.value _))) }
-
-pub evaluate-returns-in_ok-v-in-Length : goal.evaluate-returns-in_ok-v-in-Length
-evaluate-returns-in_ok-v-in-Length t c = record { value = λ p s. part_is c.args.c.now c.args.part _ _ p _ _ c.in-Length.is (value_goes _ _ _ _ _ _ _ (c.in_ok-v-in-Length.ensures.value p s) (let e = rw c.as_slice-in-Length.ensures.value at c.length_value.ensures.value in rw (← e) (c.given-in-Length.ensures.value _))) }
-
-pub evaluate-returns-in_ok-v-in-Pop : goal.evaluate-returns-in_ok-v-in-Pop
-evaluate-returns-in_ok-v-in-Pop t c = record { value = λ p s. part_is c.args.c.now c.args.part _ _ p _ _ c.in-Pop.is (value_goes _ _ _ _ _ _ _ (c.in_ok-v-in-Pop.ensures.value p s) (c.pop.ensures.value p.world)) }
-
-pub evaluate-returns-in_ok-text-in-Decimal : goal.evaluate-returns-in_ok-text-in-Decimal
-evaluate-returns-in_ok-text-in-Decimal t c = record { value = λ p s. part_is c.args.c.now c.args.part _ _ p _ _ c.in-Decimal.is (value_goes _ _ _ _ _ _ _ (c.in_ok-v-in-Decimal.ensures.value p s) (rw (← c.in_ok-text-in-Decimal.ensures.value) (c.given-in-Decimal.ensures.value _))) }
-
-pub evaluate-returns-in_ok-text-in-FromCharCode : goal.evaluate-returns-in_ok-text-in-FromCharCode
-evaluate-returns-in_ok-text-in-FromCharCode t c = record { value = λ p s. part_is c.args.c.now c.args.part _ _ p _ _ c.in-FromCharCode.is (value_goes _ _ _ _ _ _ _ (c.in_ok-v-in-FromCharCode.ensures.value p s) (rw (← c.in_ok-text-in-FromCharCode.ensures.value) (c.given-in-FromCharCode.ensures.value _))) }
-
-pub evaluate-returns-in_err-u-in-Binary : goal.evaluate-returns-in_err-u-in-Binary
-evaluate-returns-in_err-u-in-Binary t c = record { value = λ p s. part_is c.args.c.now c.args.part _ _ p _ _ c.in-Binary.is (stopped _ c.from_residual-in_err-u-in-Binary.result _ _ _ c.from_residual-in_err-u-in-Binary.ensures.1 (stops_then _ _ _ _ (c.in_err-u-in-Binary.ensures.value p s))) }
-
-pub evaluate-returns-in_err-v-in-Binary : goal.evaluate-returns-in_err-v-in-Binary
-evaluate-returns-in_err-v-in-Binary t c = record { value = λ p s. part_is c.args.c.now c.args.part _ _ p _ _ c.in-Binary.is (value_goes _ _ _ _ _ _ _ (c.in_ok-u-in-Binary.ensures.value p s) (stopped _ c.from_residual-in_err-v-in-Binary.result _ _ _ c.from_residual-in_err-v-in-Binary.ensures.1 (stops_then _ _ _ _ (c.in_err-v-in-Binary.ensures.value p s)))) }
-
-pub evaluate-returns-in_err-u-in-Index : goal.evaluate-returns-in_err-u-in-Index
-evaluate-returns-in_err-u-in-Index t c = record { value = λ p s. part_is c.args.c.now c.args.part _ _ p _ _ c.in-Index.is (stopped _ c.from_residual-in_err-u-in-Index.result _ _ _ c.from_residual-in_err-u-in-Index.ensures.1 (stops_then _ _ _ _ (c.in_err-u-in-Index.ensures.value p s))) }
-
-pub evaluate-returns-in_err-v-in-Index : goal.evaluate-returns-in_err-v-in-Index
-evaluate-returns-in_err-v-in-Index t c = record { value = λ p s. part_is c.args.c.now c.args.part _ _ p _ _ c.in-Index.is (value_goes _ _ _ _ _ _ _ (c.in_ok-u-in-Index.ensures.value p s) (stopped _ c.from_residual-in_err-v-in-Index.result _ _ _ c.from_residual-in_err-v-in-Index.ensures.1 (stops_then _ _ _ _ (c.in_err-v-in-Index.ensures.value p s)))) }
-
-pub evaluate-returns-in_err-u-in-CharCodeAt : goal.evaluate-returns-in_err-u-in-CharCodeAt
-evaluate-returns-in_err-u-in-CharCodeAt t c = record { value = λ p s. part_is c.args.c.now c.args.part _ _ p _ _ c.in-CharCodeAt.is (stopped _ c.from_residual-in_err-u-in-CharCodeAt.result _ _ _ c.from_residual-in_err-u-in-CharCodeAt.ensures.1 (stops_then _ _ _ _ (c.in_err-u-in-CharCodeAt.ensures.value p s))) }
-
-pub evaluate-returns-in_err-v-in-CharCodeAt : goal.evaluate-returns-in_err-v-in-CharCodeAt
-evaluate-returns-in_err-v-in-CharCodeAt t c = record { value = λ p s. part_is c.args.c.now c.args.part _ _ p _ _ c.in-CharCodeAt.is (value_goes _ _ _ _ _ _ _ (c.in_ok-u-in-CharCodeAt.ensures.value p s) (stopped _ c.from_residual-in_err-v-in-CharCodeAt.result _ _ _ c.from_residual-in_err-v-in-CharCodeAt.ensures.1 (stops_then _ _ _ _ (c.in_err-v-in-CharCodeAt.ensures.value p s)))) }
-
-pub evaluate-returns-in_err-u-in-Substring : goal.evaluate-returns-in_err-u-in-Substring
-evaluate-returns-in_err-u-in-Substring t c = record { value = λ p s. part_is c.args.c.now c.args.part _ _ p _ _ c.in-Substring.is (stopped _ c.from_residual-in_err-u-in-Substring.result _ _ _ c.from_residual-in_err-u-in-Substring.ensures.1 (stops_then _ _ _ _ (c.in_err-u-in-Substring.ensures.value p s))) }
-
-pub evaluate-returns-in_err-v-in-Substring : goal.evaluate-returns-in_err-v-in-Substring
-evaluate-returns-in_err-v-in-Substring t c = record { value = λ p s. part_is c.args.c.now c.args.part _ _ p _ _ c.in-Substring.is (value_goes _ _ _ _ _ _ _ (c.in_ok-u-in-Substring.ensures.value p s) (stopped _ c.from_residual-in_err-v-in-Substring.result _ _ _ c.from_residual-in_err-v-in-Substring.ensures.1 (stops_then _ _ _ _ (c.in_err-v-in-Substring.ensures.value p s)))) }
-
-pub evaluate-returns-in_ok-v-in-Binary : goal.evaluate-returns-in_ok-v-in-Binary
-evaluate-returns-in_ok-v-in-Binary t c = record { value = λ p s. part_is c.args.c.now c.args.part _ _ p _ _ c.in-Binary.is (value_goes _ _ _ _ _ _ _ (c.in_ok-u-in-Binary.ensures.value p s) (value_goes _ _ _ _ _ _ _ (c.in_ok-v-in-Binary.ensures.value p s) (let b = rw c.as_slice.ensures.value at c.binary.ensures.value in b _))) }
-
-pub evaluate-returns-in_ok-v-in-Index : goal.evaluate-returns-in_ok-v-in-Index
-evaluate-returns-in_ok-v-in-Index t c = record { value = λ p s. part_is c.args.c.now c.args.part _ _ p _ _ c.in-Index.is (value_goes _ _ _ _ _ _ _ (c.in_ok-u-in-Index.ensures.value p s) (value_goes _ _ _ _ _ _ _ (c.in_ok-v-in-Index.ensures.value p s) (let e = rw c.as_slice-in-Index.ensures.value at c.element.ensures.value in rw (← e) (c.given-in-Index.ensures.value _)))) }
-
-pub evaluate-returns-in_ok-v-in-CharCodeAt : goal.evaluate-returns-in_ok-v-in-CharCodeAt
-evaluate-returns-in_ok-v-in-CharCodeAt t c = record { value = λ p s. part_is c.args.c.now c.args.part _ _ p _ _ c.in-CharCodeAt.is (value_goes _ _ _ _ _ _ _ (c.in_ok-u-in-CharCodeAt.ensures.value p s) (value_goes _ _ _ _ _ _ _ (c.in_ok-v-in-CharCodeAt.ensures.value p s) (rw (← c.char_code.ensures.value) (c.given-in-CharCodeAt.ensures.value _)))) }
-
-pub evaluate-returns-in_err-x-in-Substring : goal.evaluate-returns-in_err-x-in-Substring
-evaluate-returns-in_err-x-in-Substring t c = record { value = λ p s. part_is c.args.c.now c.args.part _ _ p _ _ c.in-Substring.is (value_goes _ _ _ _ _ _ _ (c.in_ok-u-in-Substring.ensures.value p s) (value_goes _ _ _ _ _ _ _ (c.in_ok-v-in-Substring.ensures.value p s) (stopped _ c.from_residual-in_err-x-in-Substring.result _ _ _ c.from_residual-in_err-x-in-Substring.ensures.1 (stops_then _ _ _ _ (c.in_err-x-in-Substring.ensures.value p s))))) }
-
-pub evaluate-returns-in_ok-text-in-Substring : goal.evaluate-returns-in_ok-text-in-Substring
-evaluate-returns-in_ok-text-in-Substring t c = record { value = λ p s. part_is c.args.c.now c.args.part _ _ p _ _ c.in-Substring.is (value_goes _ _ _ _ _ _ _ (c.in_ok-u-in-Substring.ensures.value p s) (value_goes _ _ _ _ _ _ _ (c.in_ok-v-in-Substring.ensures.value p s) (value_goes _ _ _ _ _ _ _ (c.in_ok-x-in-Substring.ensures.value p s) (rw (← c.in_ok-text-in-Substring.ensures.value) (c.given-in-Substring.ensures.value _))))) }
-
-pub evaluate-returns-in_err-condition-in-And : goal.evaluate-returns-in_err-condition-in-And
-evaluate-returns-in_err-condition-in-And t c = record { value = λ p s. part_is c.args.c.now c.args.part _ _ p _ _ c.in-And.is (stopped _ c.from_residual-in_err-condition-in-And.result _ _ _ c.from_residual-in_err-condition-in-And.ensures.1 (condition_stops _ _ _ _ _ (c.in_err-condition-in-And.ensures.value p s))) }
-
-pub evaluate-returns-in_err-condition-in-Or : goal.evaluate-returns-in_err-condition-in-Or
-evaluate-returns-in_err-condition-in-Or t c = record { value = λ p s. part_is c.args.c.now c.args.part _ _ p _ _ c.in-Or.is (stopped _ c.from_residual-in_err-condition-in-Or.result _ _ _ c.from_residual-in_err-condition-in-Or.ensures.1 (condition_stops _ _ _ _ _ (c.in_err-condition-in-Or.ensures.value p s))) }
-
-pub evaluate-returns-in_err-condition-in-Conditional : goal.evaluate-returns-in_err-condition-in-Conditional
-evaluate-returns-in_err-condition-in-Conditional t c = record { value = λ p s. part_is c.args.c.now c.args.part _ _ p _ _ c.in-Conditional.is (stopped _ c.from_residual-in_err-condition-in-Conditional.result _ _ _ c.from_residual-in_err-condition-in-Conditional.ensures.1 (condition_stops _ _ _ _ _ (c.in_err-condition-in-Conditional.ensures.value p s))) }
-
-pub evaluate-returns-then-branch : goal.evaluate-returns-then-branch
-evaluate-returns-then-branch t c = record { value = λ p s. part_is c.args.c.now c.args.part _ _ p _ _ c.in-And.is (condition_true _ _ _ _ _ _ _ _ _ (c.in_ok-condition-in-And.ensures.value p s) c.if-branch.true (c.eval-then-branch.ensures.value p s)) }
-
-pub evaluate-returns-else-branch : goal.evaluate-returns-else-branch
-evaluate-returns-else-branch t c = record { value = λ p s. part_gives c.args.c.now c.args.part _ p _ c.in-And.is ∙ condition_is_false _ _ _ _ _ _ (c.in_ok-condition-in-And.ensures.value p s) c.if-branch.false }
-
-pub evaluate-returns-then-branch-2 : goal.evaluate-returns-then-branch-2
-evaluate-returns-then-branch-2 t c = record { value = λ p s. part_gives c.args.c.now c.args.part _ p _ c.in-Or.is ∙ condition_is_true _ _ _ _ _ _ (c.in_ok-condition-in-Or.ensures.value p s) c.if-branch-2.true }
-
-pub evaluate-returns-else-branch-2 : goal.evaluate-returns-else-branch-2
-evaluate-returns-else-branch-2 t c = record { value = λ p s. part_is c.args.c.now c.args.part _ _ p _ _ c.in-Or.is (condition_false _ _ _ _ _ _ _ _ _ (c.in_ok-condition-in-Or.ensures.value p s) c.if-branch-2.false (c.eval-in-Or.ensures.value p s)) }
-
-pub evaluate-returns-then-branch-3 : goal.evaluate-returns-then-branch-3
-evaluate-returns-then-branch-3 t c = record { value = λ p s. part_is c.args.c.now c.args.part _ _ p _ _ c.in-Conditional.is (condition_true _ _ _ _ _ _ _ _ _ (c.in_ok-condition-in-Conditional.ensures.value p s) c.if-branch-3.true (c.eval-then-branch-3.ensures.value p s)) }
-
-pub evaluate-returns-else-branch-3 : goal.evaluate-returns-else-branch-3
-evaluate-returns-else-branch-3 t c = record { value = λ p s. part_is c.args.c.now c.args.part _ _ p _ _ c.in-Conditional.is (condition_false _ _ _ _ _ _ _ _ _ (c.in_ok-condition-in-Conditional.ensures.value p s) c.if-branch-3.false (c.eval-in-Conditional.ensures.value p s)) }
-
-pub evaluate-returns-in_err-eval_onto-in-Array : goal.evaluate-returns-in_err-eval_onto-in-Array
-evaluate-returns-in_err-eval_onto-in-Array t c = record { value = λ p s. part_is c.args.c.now c.args.part _ _ p _ _ c.in-Array.is (stopped _ c.from_residual-in_err-eval_onto-in-Array.result _ _ _ c.from_residual-in_err-eval_onto-in-Array.ensures.1 (stops_onto _ _ _ _ _ (c.in_err-eval_onto-in-Array.ensures.value p s))) }
-
-pub evaluate-returns-in_ok-eval_onto-in-Array : goal.evaluate-returns-in_ok-eval_onto-in-Array
-evaluate-returns-in_ok-eval_onto-in-Array t c = record { value = λ p s. part_is c.args.c.now c.args.part _ _ p _ _ c.in-Array.is (value_goes _ _ _ _ _ _ _ (after_none _ _ _ _ (ap values_of c.new-values.ensures.items) (c.in_ok-eval_onto-in-Array.ensures.value p s)) (c.allocate.ensures.value p.world)) }
-
-pub evaluate-returns-in_ok-entries-in-Dictionary : goal.evaluate-returns-in_ok-entries-in-Dictionary
-evaluate-returns-in_ok-entries-in-Dictionary t c = record { value = λ p s. let e : c.in_ok-entries-in-Dictionary.entries.value.entries ≡ [] = first_of (cc, search rules) in part_is c.args.c.now c.args.part _ _ p _ _ c.in-Dictionary.is (rw e at (c.allocate-in-Dictionary.ensures.value p.world)) }
 
 pub eval_onto-eval-requires : goal.eval_onto-eval-requires
 eval_onto-eval-requires t c = (omega arith, first_simple c.args.c.now.code.now c.loop-turn.list c.in-Some.cell c.args.c.now.sound c.in-Some.ensures.value c.loop-turn.invariant.0)
@@ -169,3 +64,147 @@ eval_onto-loop-turn-preserved t c = (rest_simple c.args.c.now.code.now c.loop-tu
 
 pub eval_onto-returns-in-None : goal.eval_onto-returns-in-None
 eval_onto-returns-in-None t c = record { value = λ p s. c.loop-turn.invariant.1 p s ∙ list_ends c.args.c.now p s c.loop-turn.list (values_of c.loop-turn.values.items) _ c.in-None.ensures.value }
+
+pub evaluate-returns-in-Unary : goal.evaluate-returns-in-Unary
+evaluate-returns-in-Unary t c = record { value = λ p s. part_is c.args.c.now c.args.part _ _ p _ _ c.in-Unary.is (c.unary.ensures.value p s) }
+
+pub evaluate-returns-in-Binary : goal.evaluate-returns-in-Binary
+evaluate-returns-in-Binary t c = record { value = λ p s. part_is c.args.c.now c.args.part _ _ p _ _ c.in-Binary.is (c.operator.ensures.value p s) }
+
+pub evaluate-returns-in-Index : goal.evaluate-returns-in-Index
+evaluate-returns-in-Index t c = record { value = λ p s. part_is c.args.c.now c.args.part _ _ p _ _ c.in-Index.is (c.index.ensures.value p s) }
+
+pub evaluate-returns-in-Length : goal.evaluate-returns-in-Length
+evaluate-returns-in-Length t c = record { value = λ p s. part_is c.args.c.now c.args.part _ _ p _ _ c.in-Length.is (c.length_of.ensures.value p s) }
+
+pub evaluate-returns-in-Pop : goal.evaluate-returns-in-Pop
+evaluate-returns-in-Pop t c = record { value = λ p s. part_is c.args.c.now c.args.part _ _ p _ _ c.in-Pop.is (c.popped.ensures.value p s) }
+
+pub evaluate-returns-in-CharCodeAt : goal.evaluate-returns-in-CharCodeAt
+evaluate-returns-in-CharCodeAt t c = record { value = λ p s. part_is c.args.c.now c.args.part _ _ p _ _ c.in-CharCodeAt.is (c.char_code_at.ensures.value p s) }
+
+pub evaluate-returns-in-Substring : goal.evaluate-returns-in-Substring
+evaluate-returns-in-Substring t c = record { value = λ p s. part_is c.args.c.now c.args.part _ _ p _ _ c.in-Substring.is (c.substring.ensures.value p s) }
+
+pub evaluate-returns-in-Decimal : goal.evaluate-returns-in-Decimal
+evaluate-returns-in-Decimal t c = record { value = λ p s. part_is c.args.c.now c.args.part _ _ p _ _ c.in-Decimal.is (c.decimal.ensures.value p s) }
+
+pub evaluate-returns-in-FromCharCode : goal.evaluate-returns-in-FromCharCode
+evaluate-returns-in-FromCharCode t c = record { value = λ p s. part_is c.args.c.now c.args.part _ _ p _ _ c.in-FromCharCode.is (c.from_char_code.ensures.value p s) }
+
+pub evaluate-returns-in-Array : goal.evaluate-returns-in-Array
+evaluate-returns-in-Array t c = record { value = λ p s. part_is c.args.c.now c.args.part _ _ p _ _ c.in-Array.is (c.array.ensures.value p s) }
+
+pub evaluate-returns-in-And : goal.evaluate-returns-in-And
+evaluate-returns-in-And t c = record { value = λ p s. part_is c.args.c.now c.args.part _ _ p _ _ c.in-And.is (c.both.ensures.value p s) }
+
+pub evaluate-returns-in-Or : goal.evaluate-returns-in-Or
+evaluate-returns-in-Or t c = record { value = λ p s. part_is c.args.c.now c.args.part _ _ p _ _ c.in-Or.is (c.either.ensures.value p s) }
+
+pub evaluate-returns-in-Conditional : goal.evaluate-returns-in-Conditional
+evaluate-returns-in-Conditional t c = record { value = λ p s. part_is c.args.c.now c.args.part _ _ p _ _ c.in-Conditional.is (c.choice.ensures.value p s) }
+
+pub evaluate-returns-in-Dictionary : goal.evaluate-returns-in-Dictionary
+evaluate-returns-in-Dictionary t c = record { value = λ p s. part_is c.args.c.now c.args.part _ _ p _ _ c.in-Dictionary.is (c.dictionary.ensures.value p.world) }
+
+pub unary-returns-in_err-v : goal.unary-returns-in_err-v
+unary-returns-in_err-v t c = record { value = λ p s. stopped _ c.from_residual.result _ _ _ c.from_residual.ensures.1 (stops_then _ _ _ _ (c.in_err-v.ensures.value p s)) }
+
+pub unary-returns : goal.unary-returns
+unary-returns t c = record { value = λ p s. value_goes _ _ _ _ _ _ _ (c.in_ok-v.ensures.value p s) (rw (← c.unary_value.ensures.value) (c.given.ensures.value _)) }
+
+pub length_of-returns-in_err-v : goal.length_of-returns-in_err-v
+length_of-returns-in_err-v t c = record { value = λ p s. stopped _ c.from_residual.result _ _ _ c.from_residual.ensures.1 (stops_then _ _ _ _ (c.in_err-v.ensures.value p s)) }
+
+pub length_of-returns : goal.length_of-returns
+length_of-returns t c = record { value = λ p s. value_goes _ _ _ _ _ _ _ (c.in_ok-v.ensures.value p s) (let e = rw c.as_slice.ensures.value at c.length_value.ensures.value in rw (← e) (c.given.ensures.value _)) }
+
+pub popped-returns-in_err-v : goal.popped-returns-in_err-v
+popped-returns-in_err-v t c = record { value = λ p s. stopped _ c.from_residual.result _ _ _ c.from_residual.ensures.1 (stops_then _ _ _ _ (c.in_err-v.ensures.value p s)) }
+
+pub popped-returns : goal.popped-returns
+popped-returns t c = record { value = λ p s. value_goes _ _ _ _ _ _ _ (c.in_ok-v.ensures.value p s) (c.pop.ensures.value p.world) }
+
+pub decimal-returns-in_err-v : goal.decimal-returns-in_err-v
+decimal-returns-in_err-v t c = record { value = λ p s. stopped _ c.from_residual.result _ _ _ c.from_residual.ensures.1 (stops_then _ _ _ _ (c.in_err-v.ensures.value p s)) }
+
+pub decimal-returns : goal.decimal-returns
+decimal-returns t c = record { value = λ p s. value_goes _ _ _ _ _ _ _ (c.in_ok-v.ensures.value p s) (rw (← c.in_ok-text.ensures.value) (c.given.ensures.value _)) }
+
+pub from_char_code-returns-in_err-v : goal.from_char_code-returns-in_err-v
+from_char_code-returns-in_err-v t c = record { value = λ p s. stopped _ c.from_residual.result _ _ _ c.from_residual.ensures.1 (stops_then _ _ _ _ (c.in_err-v.ensures.value p s)) }
+
+pub from_char_code-returns : goal.from_char_code-returns
+from_char_code-returns t c = record { value = λ p s. value_goes _ _ _ _ _ _ _ (c.in_ok-v.ensures.value p s) (rw (← c.in_ok-text.ensures.value) (c.given.ensures.value _)) }
+
+pub operator-returns-in_err-u : goal.operator-returns-in_err-u
+operator-returns-in_err-u t c = record { value = λ p s. stopped _ c.from_residual.result _ _ _ c.from_residual.ensures.1 (stops_then _ _ _ _ (c.in_err-u.ensures.value p s)) }
+
+pub operator-returns-in_err-v : goal.operator-returns-in_err-v
+operator-returns-in_err-v t c = record { value = λ p s. value_goes _ _ _ _ _ _ _ (c.in_ok-u.ensures.value p s) (stopped _ c.from_residual-in_err-v.result _ _ _ c.from_residual-in_err-v.ensures.1 (stops_then _ _ _ _ (c.in_err-v.ensures.value p s))) }
+
+pub operator-returns : goal.operator-returns
+operator-returns t c = record { value = λ p s. value_goes _ _ _ _ _ _ _ (c.in_ok-u.ensures.value p s) (value_goes _ _ _ _ _ _ _ (c.in_ok-v.ensures.value p s) (let b = rw c.as_slice.ensures.value at c.binary.ensures.value in b _)) }
+
+pub index-returns-in_err-u : goal.index-returns-in_err-u
+index-returns-in_err-u t c = record { value = λ p s. stopped _ c.from_residual.result _ _ _ c.from_residual.ensures.1 (stops_then _ _ _ _ (c.in_err-u.ensures.value p s)) }
+
+pub index-returns-in_err-v : goal.index-returns-in_err-v
+index-returns-in_err-v t c = record { value = λ p s. value_goes _ _ _ _ _ _ _ (c.in_ok-u.ensures.value p s) (stopped _ c.from_residual-in_err-v.result _ _ _ c.from_residual-in_err-v.ensures.1 (stops_then _ _ _ _ (c.in_err-v.ensures.value p s))) }
+
+pub index-returns : goal.index-returns
+index-returns t c = record { value = λ p s. value_goes _ _ _ _ _ _ _ (c.in_ok-u.ensures.value p s) (value_goes _ _ _ _ _ _ _ (c.in_ok-v.ensures.value p s) (let e = rw c.as_slice.ensures.value at c.element.ensures.value in rw (← e) (c.given.ensures.value _))) }
+
+pub char_code_at-returns-in_err-u : goal.char_code_at-returns-in_err-u
+char_code_at-returns-in_err-u t c = record { value = λ p s. stopped _ c.from_residual.result _ _ _ c.from_residual.ensures.1 (stops_then _ _ _ _ (c.in_err-u.ensures.value p s)) }
+
+pub char_code_at-returns-in_err-v : goal.char_code_at-returns-in_err-v
+char_code_at-returns-in_err-v t c = record { value = λ p s. value_goes _ _ _ _ _ _ _ (c.in_ok-u.ensures.value p s) (stopped _ c.from_residual-in_err-v.result _ _ _ c.from_residual-in_err-v.ensures.1 (stops_then _ _ _ _ (c.in_err-v.ensures.value p s))) }
+
+pub char_code_at-returns : goal.char_code_at-returns
+char_code_at-returns t c = record { value = λ p s. value_goes _ _ _ _ _ _ _ (c.in_ok-u.ensures.value p s) (value_goes _ _ _ _ _ _ _ (c.in_ok-v.ensures.value p s) (rw (← c.char_code.ensures.value) (c.given.ensures.value _))) }
+
+pub substring-returns-in_err-u : goal.substring-returns-in_err-u
+substring-returns-in_err-u t c = record { value = λ p s. stopped _ c.from_residual.result _ _ _ c.from_residual.ensures.1 (stops_then _ _ _ _ (c.in_err-u.ensures.value p s)) }
+
+pub substring-returns-in_err-v : goal.substring-returns-in_err-v
+substring-returns-in_err-v t c = record { value = λ p s. value_goes _ _ _ _ _ _ _ (c.in_ok-u.ensures.value p s) (stopped _ c.from_residual-in_err-v.result _ _ _ c.from_residual-in_err-v.ensures.1 (stops_then _ _ _ _ (c.in_err-v.ensures.value p s))) }
+
+pub substring-returns-in_err-x : goal.substring-returns-in_err-x
+substring-returns-in_err-x t c = record { value = λ p s. value_goes _ _ _ _ _ _ _ (c.in_ok-u.ensures.value p s) (value_goes _ _ _ _ _ _ _ (c.in_ok-v.ensures.value p s) (stopped _ c.from_residual-in_err-x.result _ _ _ c.from_residual-in_err-x.ensures.1 (stops_then _ _ _ _ (c.in_err-x.ensures.value p s)))) }
+
+pub substring-returns : goal.substring-returns
+substring-returns t c = record { value = λ p s. value_goes _ _ _ _ _ _ _ (c.in_ok-u.ensures.value p s) (value_goes _ _ _ _ _ _ _ (c.in_ok-v.ensures.value p s) (value_goes _ _ _ _ _ _ _ (c.in_ok-x.ensures.value p s) (rw (← c.in_ok-text.ensures.value) (c.given.ensures.value _)))) }
+
+pub both-returns-in_err-condition : goal.both-returns-in_err-condition
+both-returns-in_err-condition t c = record { value = λ p s. stopped _ c.from_residual.result _ _ _ c.from_residual.ensures.1 (condition_stops _ _ _ _ _ (c.in_err-condition.ensures.value p s)) }
+
+pub either-returns-in_err-condition : goal.either-returns-in_err-condition
+either-returns-in_err-condition t c = record { value = λ p s. stopped _ c.from_residual.result _ _ _ c.from_residual.ensures.1 (condition_stops _ _ _ _ _ (c.in_err-condition.ensures.value p s)) }
+
+pub choice-returns-in_err-condition : goal.choice-returns-in_err-condition
+choice-returns-in_err-condition t c = record { value = λ p s. stopped _ c.from_residual.result _ _ _ c.from_residual.ensures.1 (condition_stops _ _ _ _ _ (c.in_err-condition.ensures.value p s)) }
+
+pub both-returns-then-branch : goal.both-returns-then-branch
+both-returns-then-branch t c = record { value = λ p s. condition_true _ _ _ _ _ _ _ _ _ (c.in_ok-condition.ensures.value p s) c.if-branch.true (c.eval.ensures.value p s) }
+
+pub both-returns : goal.both-returns
+both-returns t c = record { value = λ p s. condition_is_false _ _ _ _ _ _ (c.in_ok-condition.ensures.value p s) c.if-branch.false }
+
+pub either-returns-then-branch : goal.either-returns-then-branch
+either-returns-then-branch t c = record { value = λ p s. condition_is_true _ _ _ _ _ _ (c.in_ok-condition.ensures.value p s) c.if-branch.true }
+
+pub either-returns : goal.either-returns
+either-returns t c = record { value = λ p s. condition_false _ _ _ _ _ _ _ _ _ (c.in_ok-condition.ensures.value p s) c.if-branch.false (c.eval.ensures.value p s) }
+
+pub choice-returns-then-branch : goal.choice-returns-then-branch
+choice-returns-then-branch t c = record { value = λ p s. condition_true _ _ _ _ _ _ _ _ _ (c.in_ok-condition.ensures.value p s) c.if-branch.true (c.eval.ensures.value p s) }
+
+pub choice-returns : goal.choice-returns
+choice-returns t c = record { value = λ p s. condition_false _ _ _ _ _ _ _ _ _ (c.in_ok-condition.ensures.value p s) c.if-branch.false (c.eval-2.ensures.value p s) }
+
+pub array-returns-in_err-eval_onto : goal.array-returns-in_err-eval_onto
+array-returns-in_err-eval_onto t c = record { value = λ p s. stopped _ c.from_residual.result _ _ _ c.from_residual.ensures.1 (stops_onto _ _ _ _ _ (c.in_err-eval_onto.ensures.value p s)) }
+
+pub array-returns : goal.array-returns
+array-returns t c = record { value = λ p s. value_goes _ _ _ _ _ _ _ (after_none _ _ _ _ (ap values_of c.new-values.ensures.items) (c.in_ok-eval_onto.ensures.value p s)) (c.allocate.ensures.value p.world) }
