@@ -1,0 +1,4 @@
+pub mod ScalarLemmas
+pub mod CallLemmas
+pub mod ReceiverLemmas
+pub mod EnterLemmas
