@@ -1,0 +1,76 @@
+//! Uses: each variable whose name occurs in an expression is used there.
+
+ghost use Rattle.std.specs.Prelude.{◌≡◌, ◌∷◌, ◌++◌, [], ℕ, List, OnOk, map};
+ghost use Rattle.go_type.specs.Tree.{Ty};
+ghost use Rattle.go_syntax.specs.View.{expr_view, exprs_of, stmt_view};
+ghost use Rattle.go_scopes.specs.EnvView.{env_of};
+ghost use Rattle.go_typing.specs.Scopes.{visible};
+ghost use Rattle.go_typing.specs.Uses.{names_in_stmt};
+ghost use Rattle.go_statements.specs.Walk.{declared_place, places_of, with_uses, uses, uses_all};
+ghost use Rattle.go_uses.specs.Texts.{texts};
+ghost use Rattle.go_walk.specs.WalkView.{walk_of};
+
+use crate::walk::Walk;
+use gj_base::{NoMemory, Place, Text};
+use go_scopes::Env;
+use go_syntax::tree::{Expr, Stmt};
+use go_uses::names::{in_expr, in_exprs, in_stmt};
+
+fn and_place(used: &mut Vec<Place>, place: Place) -> Result<(), NoMemory>
+    ensures value { OnOk result (used.new.items ≡ used.old.items ++ place ∷ []) }
+{
+    used.push(place)?;
+    Ok(())
+}
+
+// A name, by where its innermost declaration stands.
+fn use_name(env: &Env, used: &mut Vec<Place>, x: &Text) -> Result<(), NoMemory>
+    ensures value { OnOk result (used.new.items ≡ used.old.items ++ declared_place x.now (visible (env_of env.now))) }
+{
+    match env.origin(x.as_bytes()) {
+        Some(place) => and_place(used, place),
+        None => Ok(()),
+    }
+}
+
+fn use_names(env: &Env, used: &mut Vec<Place>, names: &[&Text]) -> Result<(), NoMemory>
+    ensures value { OnOk result (used.new.items ≡ used.old.items ++ places_of (texts names.now) (visible (env_of env.now))) }
+{
+    for x in names {
+        use_name(env, used, *x)?;
+    }
+    Ok(())
+}
+
+/// The variables that an expression or a type uses.
+pub fn use_expr(walk: &mut Walk, e: &Expr) -> Result<(), NoMemory>
+    ensures value { OnOk result ((ts : List Ty) → walk_of ts walk.new ≡ uses (expr_view e.now) (walk_of ts walk.old)) }
+    ensures env { walk.new.env ≡ walk.old.env }
+    ensures next { (walk.new.next ≡ walk.old.next) × (walk.new.next_label ≡ walk.old.next_label) }
+{
+    let mut names = Vec::new(*walk.used.allocator());
+    in_expr(&mut names, e)?;
+    use_names(&walk.env, &mut walk.used, names.as_slice())
+}
+
+/// The variables that expressions use.
+pub fn use_exprs(walk: &mut Walk, es: &[Expr]) -> Result<(), NoMemory>
+    ensures value { OnOk result ((ts : List Ty) → walk_of ts walk.new ≡ uses_all (exprs_of (map expr_view es.now)) (walk_of ts walk.old)) }
+    ensures env { walk.new.env ≡ walk.old.env }
+    ensures next { (walk.new.next ≡ walk.old.next) × (walk.new.next_label ≡ walk.old.next_label) }
+{
+    let mut names = Vec::new(*walk.used.allocator());
+    in_exprs(&mut names, es)?;
+    use_names(&walk.env, &mut walk.used, names.as_slice())
+}
+
+/// The variables that a statement uses that isn't built yet.
+pub fn use_stmt(walk: &mut Walk, s: &Stmt) -> Result<(), NoMemory>
+    ensures value { OnOk result ((ts : List Ty) → walk_of ts walk.new ≡ with_uses (names_in_stmt (stmt_view s.now)) (walk_of ts walk.old)) }
+    ensures env { walk.new.env ≡ walk.old.env }
+    ensures next { (walk.new.next ≡ walk.old.next) × (walk.new.next_label ≡ walk.old.next_label) }
+{
+    let mut names = Vec::new(*walk.used.allocator());
+    in_stmt(&mut names, s)?;
+    use_names(&walk.env, &mut walk.used, names.as_slice())
+}
