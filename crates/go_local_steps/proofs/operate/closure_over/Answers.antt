@@ -1,5 +1,5 @@
-use Rattle.std.proofs.Common.{ap, sym, ◌∙◌, ◌∷◌, [], ◌+◌, List, map, length, ℕ}
-use Rattle.std.specs.Prelude.{Option, Some, None, option_map}
+use Rattle.std.proofs.Common.{ap, sym, ◌∙◌, ◌∷◌, [], ◌+◌, List, map, length}
+use Rattle.std.specs.Prelude.{Some, option_map}
 use Rattle.go_core.specs.Calls as calls
 use Rattle.go_core.specs.CoreView.{id_of}
 use Rattle.go_core.specs.Frames.{with_more}

@@ -1,5 +1,5 @@
 use Rattle.std.proofs.Common.{ap, sym, ◌∙◌, subst, List, map}
-use Rattle.std.specs.Prelude.{Option, Some, None, option_map, slice_get}
+use Rattle.std.specs.Prelude.{Option, option_map}
 use Rattle.go_type.specs.Table.{places}
 use Rattle.go_core.specs.CoreTree.{CoreFunc}
 use Rattle.go_core.specs.Calls as calls

@@ -1,4 +1,4 @@
-use Rattle.std.proofs.Common.{◌≡◌, ◌∙◌, ◌++◌, ◌∷◌, [], ap, sym, refl, arith, ℕ, List}
+use Rattle.std.proofs.Common.{◌∙◌, ◌++◌, ap, sym, arith, ℕ, List}
 use Rattle.go_core.specs.Opened.{indexes_of}
 use Rattle.go_core.specs.declared.node.CoreElements.{out-CoreElements}
 use Rattle.go_tasks.specs.Seen.{elements_from}

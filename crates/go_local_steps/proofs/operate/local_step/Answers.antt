@@ -1,5 +1,5 @@
 use Rattle.std.proofs.Common.{ap, sym, ◌∙◌, ◌∷◌, [], List}
-use Rattle.std.specs.Prelude.{Option, Some, None}
+use Rattle.std.specs.Prelude.{Some}
 use Rattle.go_core.specs.Frames.{with_more}
 use Rattle.go_core.specs.GoStep as steps
 use Rattle.go_core.specs.Memory as core

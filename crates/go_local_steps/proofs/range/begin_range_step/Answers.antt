@@ -1,4 +1,4 @@
-use Rattle.std.proofs.Common.{◌≡◌, ap, sym, ◌∙◌, ◌∷◌, List, Bool, true, false}
+use Rattle.std.proofs.Common.{◌≡◌, ap, sym, ◌∙◌, ◌∷◌, List, Bool}
 use Rattle.std.specs.Prelude.{Option, Some, None}
 use Rattle.go_type.specs.Tree.{Ty}
 use Rattle.go_type.specs.Named.{NamedTy}

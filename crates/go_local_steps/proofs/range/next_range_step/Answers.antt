@@ -1,9 +1,9 @@
 use Rattle.std.proofs.Common.{◌≡◌, ap, sym, ◌∙◌, subst, List}
-use Rattle.std.specs.Prelude.{Option, Some, None, Ok}
+use Rattle.std.specs.Prelude.{Ok}
 use Rattle.go_type.specs.Tree.{Ty}
 use Rattle.go_type.specs.Named.{NamedTy}
 use Rattle.go_type.specs.Levels.{tree_of}
-use Rattle.go_type.specs.Table.{places, names}
+use Rattle.go_type.specs.Table.{places}
 use Rattle.go_type.specs.Underlying.{underlying}
 use Rattle.go_core.specs.Control as control
 use Rattle.go_core.specs.Goroutine.{with_memory}

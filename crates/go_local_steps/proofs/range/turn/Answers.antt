@@ -1,5 +1,5 @@
-use Rattle.std.proofs.Common.{◌≡◌, ap, sym, ◌∙◌, ◌∷◌, ◌+◌, ℕ, List}
-use Rattle.std.specs.Prelude.{Option, Some, None, option_and_then}
+use Rattle.std.proofs.Common.{ap, sym, ◌∙◌, ◌∷◌, ◌+◌, ℕ, List}
+use Rattle.std.specs.Prelude.{Option, Some, option_and_then}
 use Rattle.go_type.specs.Table.{places}
 use Rattle.go_core.specs.Control as control
 use Rattle.go_core.specs.Goroutine as defined

@@ -1,4 +1,4 @@
-use Rattle.std.proofs.Common.{ap, sym, ◌∙◌, refl, subst, length, List, ℕ}
+use Rattle.std.proofs.Common.{ap, sym, ◌∙◌, refl, subst, List, ℕ}
 use Rattle.std.specs.Borrow.{Bor}
 use Rattle.std.proofs.lemmas.List.{length-map}
 use Rattle.go_type.specs.Named.{NamedTy}
