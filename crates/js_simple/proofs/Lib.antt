@@ -4,3 +4,4 @@ pub mod Lists
 pub mod Marked
 pub mod Names
 pub mod Parts
+pub mod Quick

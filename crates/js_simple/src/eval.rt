@@ -12,6 +12,7 @@ ghost use Rattle.js_simple.specs.Simple.{IsSimpleAt, AreSimpleAt, IsSimplePart};
 ghost use Rattle.js_simple.specs.PartDoes.{eval_at, eval_all_at, condition_at, eval_part, expr_in, exprs_in, value_does};
 
 use crate::list::cell_at;
+use crate::numbers::{truth_at, value_of_numbers};
 use crate::operate::{allocate, binary, given, number, pop, slot_value, truth_of};
 use crate::state::{Context, Halt};
 use indexmap::IndexMap;
@@ -47,6 +48,24 @@ pub fn eval<'a>(
 // An expression as a condition.
 #[cycle(eval)]
 fn condition<'a>(
+    c: &Context<'_, 'a>,
+    objects: &mut Vec<Object<'a>>,
+    depth: u32,
+    at: u32,
+    i: u32,
+) -> Result<bool, Halt>
+    requires simple { IsSimpleAt c.now.code.now i }
+    ensures value { Does c.now (λ b. b) result objects.old.items objects.new.items (condition_at c.now at i) }
+{
+    match truth_at(c, objects.as_slice(), depth, i) {
+        Some(b) => Ok(b),
+        None => condition_by_value(c, objects, depth, at, i),
+    }
+}
+
+// The same by the value.
+#[cycle(eval)]
+fn condition_by_value<'a>(
     c: &Context<'_, 'a>,
     objects: &mut Vec<Object<'a>>,
     depth: u32,
@@ -102,6 +121,27 @@ fn unary<'a>(
 // An operator between two expressions: 11.5 to 11.10.
 #[cycle(eval)]
 fn operator<'a>(
+    c: &Context<'_, 'a>,
+    objects: &mut Vec<Object<'a>>,
+    depth: u32,
+    at: u32,
+    op: BinaryOp,
+    left: u32,
+    right: u32,
+) -> Result<Value<'a>, Halt>
+    requires left { IsSimpleAt c.now.code.now left }
+    requires right { IsSimpleAt c.now.code.now right }
+    ensures value { Does c.now value_of result objects.old.items objects.new.items (value_does (form.binary at op (expr_in c.now left) (expr_in c.now right))) }
+{
+    match value_of_numbers(c, objects.as_slice(), depth, op, left, right) {
+        Some(v) => Ok(v),
+        None => operator_by_values(c, objects, depth, at, op, left, right),
+    }
+}
+
+// The same by the values.
+#[cycle(eval)]
+fn operator_by_values<'a>(
     c: &Context<'_, 'a>,
     objects: &mut Vec<Object<'a>>,
     depth: u32,

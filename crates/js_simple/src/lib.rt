@@ -4,6 +4,7 @@
 pub mod eval;
 pub mod list;
 pub mod marks;
+pub mod numbers;
 pub mod operate;
 pub mod state;
 

@@ -25,6 +25,7 @@ impl Model for Marks {
     ghost view = { λ m. m.simple.items };
 }
 
+#[inline(always)]
 fn mark(marks: &[bool], i: u32) -> bool
     ensures value { result ≡ mark_at marks.now i }
 {
@@ -103,6 +104,7 @@ impl Marks {
     }
 
     /// Whether a part is known to stand for expressions without a call.
+    #[inline(always)]
     pub fn is_simple(&self, i: u32) -> bool
         ensures value { result ≡ mark_at self.now i }
     {

@@ -18,6 +18,7 @@ use js_tree::BinaryOp;
 use js_value::arithmetic;
 
 /// A value that may be missing: without it the operation at the offset has no meaning.
+#[inline(always)]
 pub fn given<'a>(at: u32, value: Option<Value<'a>>) -> Result<Value<'a>, Halt>
     ensures value { Anywhere value_of result (run.given at (option_map value_of value.entry)) }
 {
@@ -28,6 +29,7 @@ pub fn given<'a>(at: u32, value: Option<Value<'a>>) -> Result<Value<'a>, Halt>
 }
 
 /// A boolean as a condition.
+#[inline(always)]
 pub fn truth_of<'a>(at: u32, value: Value<'a>) -> Result<bool, Halt>
     ensures value { Anywhere (λ b. b) result (part.truth_of at (value_of value.entry)) }
 {
@@ -38,6 +40,7 @@ pub fn truth_of<'a>(at: u32, value: Value<'a>) -> Result<bool, Halt>
 }
 
 /// A number of the script.
+#[inline(always)]
 pub fn number<'a>(at: u32, n: u64) -> Result<Value<'a>, Halt>
     ensures value { Anywhere value_of result (run.given at (defined.in_range (pos n))) }
 {
@@ -48,6 +51,7 @@ pub fn number<'a>(at: u32, n: u64) -> Result<Value<'a>, Halt>
 }
 
 /// What has been set in a slot.
+#[inline(always)]
 pub fn slot_value<'a>(slots: &[Slot<'a>], slot: u32) -> Slot<'a>
     ensures value { option_map value_of result ≡ slot_value (slots_in slots.now) slot }
 {
@@ -57,6 +61,7 @@ pub fn slot_value<'a>(slots: &[Slot<'a>], slot: u32) -> Slot<'a>
     }
 }
 
+#[inline(always)]
 fn binary_value<'a>(
     arena: &'a Bump,
     objects: &[Object<'a>],
@@ -78,6 +83,7 @@ fn binary_value<'a>(
 }
 
 /// An operator between two values: 11.5 to 11.10.
+#[inline(always)]
 pub fn binary<'a>(
     arena: &'a Bump,
     objects: &[Object<'a>],
@@ -93,6 +99,7 @@ pub fn binary<'a>(
 }
 
 /// Takes the last element of an array that has one: 15.4.4.6.
+#[inline(always)]
 pub fn pop<'a>(objects: &mut Vec<Object<'a>>, at: u32, a: Value<'a>) -> Result<Value<'a>, Halt>
     ensures value { Changes value_of result objects.old.items objects.new.items (λ w. run.and_then (run.given at (defined.popped w.objects (value_of a.entry)) w) part.after_pop) }
 {

@@ -1,6 +1,8 @@
 use Rattle.std.proofs.Common.{◌∙◌, sym, ap, arith, [], ◌∷◌, Some}
 use Rattle.std.proofs.lemmas.List.{map-append}
 use Rattle.js_slots.specs.declared.place.Place.TheVariants.{Caught, Local, Global, Nowhere}
+use Rattle.js_tree.specs.Value.{and_then}
+use Rattle.js_tree.specs.Evaluate.{truth_of}
 use Rattle.js_code.specs.Held.{part_of}
 use Rattle.js_heap.specs.Seen.{value_of, values_of}
 use Rattle.js_simple.proofs.Follows.{stops_then, stops_as, gives_as, stopped, value_goes, condition_stops, condition_true, condition_false, condition_is_true, condition_is_false, after_none, stops_onto}
@@ -17,11 +19,11 @@ eval-returns-in-Some t c = record { value = λ p s. gives_as value_of _ _ _ _ (p
 pub eval-returns-in-None : goal.eval-returns-in-None
 eval-returns-in-None t c = record { value = λ p s. part_missing c.args.c.now c.args.i p _ (sym c.in-None.ensures.value) }
 
-pub condition-returns-in_err-v : goal.condition-returns-in_err-v
-condition-returns-in_err-v t c = record { value = λ p s. stopped _ c.from_residual.result _ _ _ c.from_residual.ensures.1 (stops_then _ _ _ _ (c.in_err-v.ensures.value p s)) }
+pub condition_by_value-returns-in_err-v : goal.condition_by_value-returns-in_err-v
+condition_by_value-returns-in_err-v t c = record { value = λ p s. stopped _ c.from_residual.result _ _ _ c.from_residual.ensures.1 (stops_then _ _ _ _ (c.in_err-v.ensures.value p s)) }
 
-pub condition-returns : goal.condition-returns
-condition-returns t c = record { value = λ p s. value_goes _ _ _ _ _ _ _ (c.in_ok-v.ensures.value p s) (c.truth_of.ensures.value _) }
+pub condition_by_value-returns : goal.condition_by_value-returns
+condition_by_value-returns t c = record { value = λ p s. value_goes _ _ _ _ _ _ _ (c.in_ok-v.ensures.value p s) (c.truth_of.ensures.value _) }
 
 pub evaluate-returns-in-Number : goal.evaluate-returns-in-Number
 evaluate-returns-in-Number t c = record { value = λ p s. part_is c.args.c.now c.args.part _ _ p _ _ c.in-Number.is (c.number.ensures.value _) }
@@ -137,14 +139,14 @@ from_char_code-returns-in_err-v t c = record { value = λ p s. stopped _ c.from_
 pub from_char_code-returns : goal.from_char_code-returns
 from_char_code-returns t c = record { value = λ p s. value_goes _ _ _ _ _ _ _ (c.in_ok-v.ensures.value p s) (rw (← c.in_ok-text.ensures.value) (c.given.ensures.value _)) }
 
-pub operator-returns-in_err-u : goal.operator-returns-in_err-u
-operator-returns-in_err-u t c = record { value = λ p s. stopped _ c.from_residual.result _ _ _ c.from_residual.ensures.1 (stops_then _ _ _ _ (c.in_err-u.ensures.value p s)) }
+pub operator_by_values-returns-in_err-u : goal.operator_by_values-returns-in_err-u
+operator_by_values-returns-in_err-u t c = record { value = λ p s. stopped _ c.from_residual.result _ _ _ c.from_residual.ensures.1 (stops_then _ _ _ _ (c.in_err-u.ensures.value p s)) }
 
-pub operator-returns-in_err-v : goal.operator-returns-in_err-v
-operator-returns-in_err-v t c = record { value = λ p s. value_goes _ _ _ _ _ _ _ (c.in_ok-u.ensures.value p s) (stopped _ c.from_residual-in_err-v.result _ _ _ c.from_residual-in_err-v.ensures.1 (stops_then _ _ _ _ (c.in_err-v.ensures.value p s))) }
+pub operator_by_values-returns-in_err-v : goal.operator_by_values-returns-in_err-v
+operator_by_values-returns-in_err-v t c = record { value = λ p s. value_goes _ _ _ _ _ _ _ (c.in_ok-u.ensures.value p s) (stopped _ c.from_residual-in_err-v.result _ _ _ c.from_residual-in_err-v.ensures.1 (stops_then _ _ _ _ (c.in_err-v.ensures.value p s))) }
 
-pub operator-returns : goal.operator-returns
-operator-returns t c = record { value = λ p s. value_goes _ _ _ _ _ _ _ (c.in_ok-u.ensures.value p s) (value_goes _ _ _ _ _ _ _ (c.in_ok-v.ensures.value p s) (let b = rw c.as_slice.ensures.value at c.binary.ensures.value in b _)) }
+pub operator_by_values-returns : goal.operator_by_values-returns
+operator_by_values-returns t c = record { value = λ p s. value_goes _ _ _ _ _ _ _ (c.in_ok-u.ensures.value p s) (value_goes _ _ _ _ _ _ _ (c.in_ok-v.ensures.value p s) (let b = rw c.as_slice.ensures.value at c.binary.ensures.value in b _)) }
 
 pub index-returns-in_err-u : goal.index-returns-in_err-u
 index-returns-in_err-u t c = record { value = λ p s. stopped _ c.from_residual.result _ _ _ c.from_residual.ensures.1 (stops_then _ _ _ _ (c.in_err-u.ensures.value p s)) }
@@ -208,3 +210,9 @@ array-returns-in_err-eval_onto t c = record { value = λ p s. stopped _ c.from_r
 
 pub array-returns : goal.array-returns
 array-returns t c = record { value = λ p s. value_goes _ _ _ _ _ _ _ (after_none _ _ _ _ (ap values_of c.new-values.ensures.items) (c.in_ok-eval_onto.ensures.value p s)) (c.allocate.ensures.value p.world) }
+
+pub condition-returns-in-Some : goal.condition-returns-in-Some
+condition-returns-in-Some t c = record { value = λ p s. let e = rw c.as_slice.ensures.value at c.in-Some.ensures.value in ap (λ o. and_then o (truth_of c.args.at)) (e p s) }
+
+pub operator-returns-in-Some : goal.operator-returns-in-Some
+operator-returns-in-Some t c = record { value = λ p s. let e = rw c.as_slice.ensures.value at c.in-Some.ensures.value in e c.args.at p s }
