@@ -93,6 +93,13 @@ fn program(alloc: Global, types: TypeTable, owner: TypeId) -> Result<Program, No
     })
 }
 
+fn alone_in<'a>(c: &Context<'a>, x: &'a [Scalar<'a>]) -> Result<&'a [&'a [Scalar<'a>]], NoMemory> {
+    let mut xs = Vec::new(c.alloc);
+    xs.push(x)?;
+    let operands: &'a [&'a [Scalar<'a>]] = c.arena.try_alloc_slice_copy(xs.as_slice())?;
+    Ok(operands)
+}
+
 // The frame of a call with one operand.
 fn entered<'p, 'a>(
     c: &Context<'a>,
@@ -102,7 +109,7 @@ fn entered<'p, 'a>(
 ) -> Result<Entered<'p, 'a>, Stop>
     requires { c.now.table.now ≡ p.now.types }
 {
-    let operands: &'a [&'a [Scalar<'a>]] = c.arena.try_alloc_slice_copy(&[x])?;
+    let operands = alone_in(c, x)?;
     let ready = Ready {
         func: 0,
         bases: &[70],
