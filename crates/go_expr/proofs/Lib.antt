@@ -1,0 +1,5 @@
+mod ViewLemmas
+mod ReadyLemmas
+mod WalkLemmas
+mod FaultLemmas
+mod TypedLemmas

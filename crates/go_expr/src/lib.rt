@@ -1,0 +1,18 @@
+//! The typing of expressions: the type, the core node and the constant value of an expression, and all
+//! faults in it.
+//!
+//! The Go Programming Language Specification (as of Go 1.17), "Expressions", "Constants",
+//! "Declarations and scope". The relation stands in go_typing (`specs/Typing.antt`,
+//! `specs/Faulty.antt`); `type_expr` gives exactly what it says.
+#![tactic(auto)]
+
+pub mod answered;
+pub mod laws;
+pub mod numbers;
+pub mod prefix;
+pub mod typed;
+pub mod typing;
+
+pub use answered::answer_in;
+pub use numbers::numbers_fit;
+pub use typed::{Typed, type_expr};
