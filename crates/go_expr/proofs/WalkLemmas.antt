@@ -1,14 +1,14 @@
 -- What the walk does at each form.
 use Rattle.std.proofs.Common.{arith, ◌≡◌, ◌<◌, ◌≤◌, ◌+◌, ℕ, ◌∙◌, refl, sym, ap, subst, List, [], ◌∷◌, ◌++◌, append_assoc, length, drop, get_or, drop-cons, add-one, zero, suc, map, Bool, true, false, Option, Some, None, is_some}
 use Rattle.std.proofs.lemmas.List.{length-append, append-nil}
-use Rattle.std.specs.Prelude.{Result, OnOk, option_map}
+use Rattle.std.specs.Prelude.{option_map}
 use Rattle.gj_base.specs.declared.place.Place.{Place}
 use Rattle.gj_base.specs.declared.kind.Op.{Op}
 use Rattle.gj_base.specs.declared.kind.Op.TheVariants as operator
 use Rattle.go_syntax.specs.declared.tree.Expr as tree
 use Rattle.go_syntax.specs.declared.tree.Prefix.{Prefix}
 use Rattle.go_syntax.specs.declared.tree.Prefix.TheVariants as «prefix»
-use Rattle.go_syntax.specs.Tree.{Expr, ParenExpr, UnaryExpr, BinaryExpr, IndexExpr, SliceExpr, CallExpr, MaybeExpr, NoExpr, AnExpr, Exprs, NoExprs, MoreExprs}
+use Rattle.go_syntax.specs.Tree.{Expr, ParenExpr, UnaryExpr, BinaryExpr, IndexExpr, SliceExpr, CallExpr, NoExpr, Exprs}
 use Rattle.go_syntax.specs.View.{expr_view, exprs_of, maybe_expr}
 use Rattle.go_type.specs.Tree.{Ty, Tys}
 use Rattle.go_type.specs.Named.{NamedTy}

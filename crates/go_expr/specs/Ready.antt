@@ -1,6 +1,6 @@
 -- What the walk over an expression needs.
-use Rattle.std.specs.Prelude.{ℕ, ◌<◌, ◌^◌, List}
-use Rattle.go_syntax.specs.Tree.{Expr, NameExpr, IntExpr, RuneExpr, StrExpr, ParenExpr, UnaryExpr, BinaryExpr, SelectExpr, IndexExpr, SliceExpr, AssertExpr, CallExpr, LiteralExpr, FuncExpr, ArrayType, SliceType, StructType, FuncType, InterfaceType, MapType, ChanType, MaybeExpr, NoExpr, AnExpr, Exprs, NoExprs, MoreExprs}
+use Rattle.std.specs.Prelude.{◌<◌, ◌^◌, List}
+use Rattle.go_syntax.specs.Tree.{Expr, IntExpr, ParenExpr, UnaryExpr, BinaryExpr, IndexExpr, SliceExpr, CallExpr, MaybeExpr, NoExpr, AnExpr, Exprs, NoExprs, MoreExprs}
 use Rattle.go_typing.specs.Env.{Bind}
 use Rattle.go_typing.specs.Literal.{int_value}
 use Rattle.go_callee.specs.declared.gives.Gives.{Gives}

@@ -1,4 +1,4 @@
-use Rattle.std.proofs.Common.{rules, ◌≡◌, ◌∙◌, sym, ap, ◌++◌, [], List, map}
+use Rattle.std.proofs.Common.{rules, ◌≡◌, ◌∙◌, ap, ◌++◌, List, map}
 use Rattle.std.specs.Prelude.{option_map}
 use Rattle.go_syntax.specs.View as tree
 use Rattle.go_type.specs.Levels.{tree_of}

@@ -1,13 +1,9 @@
-use Rattle.std.proofs.Common.{arith, rules, ◌≡◌, ◌∙◌, ◌+◌, refl, sym, ap, subst, map, List, true, is_some}
+use Rattle.std.proofs.Common.{◌≡◌, sym, map, true, is_some}
 use Rattle.std.proofs.lemmas.Result.{on_ok_weaker}
-use Rattle.go_syntax.specs.Tree as tree
 use Rattle.go_syntax.specs.View.{expr_view, exprs_of}
-use Rattle.go_syntax.specs.declared.tree.Expr.{Expr}
 use Rattle.go_typing.specs.Call.{is_built}
 use Rattle.go_rules.specs.BuiltinView.{builtin_view}
 use Rattle.go_callee.specs.Words.{types_of, names_of, scopes_of}
-use Rattle.go_expr.specs.Ready.{IsReady, AllReady}
-use Rattle.go_expr.proofs.ReadyLemmas.{ready_at}
 use Rattle.go_expr.proofs.ViewLemmas.{view_Paren, view_Unary, view_Binary, view_Index, view_Slice, view_Call}
 use Rattle.go_expr.proofs.WalkLemmas.{paren, unary, binary, index, slice, function_call, built_in_call, value_call}
 use Rattle.go_expr.proofs.typing.+typing.Goals as goal
