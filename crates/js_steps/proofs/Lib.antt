@@ -9,3 +9,5 @@ pub mod Loops
 pub mod On
 pub mod Performed
 pub mod Turned
+pub mod Once
+pub mod Orders

@@ -2,6 +2,7 @@
 //! a completion. ECMA-262 5.1, cut to a subset.
 #![tactic(auto)]
 
+pub mod at_once;
 pub mod evaluate;
 pub mod execute;
 pub mod follow;
