@@ -10,10 +10,11 @@ ghost use Rattle.js_walks.specs.Walks.{Walks};
 
 use gj_base::{Choices, Sink};
 use js_flow::back::unwind;
-use js_flow::order::{otherwise, statements, through};
+use js_flow::order::{otherwise, through};
 use js_frames::frame::{Flow, Frame, Halt, Task};
 use js_frames::state::{Env, State};
 use js_heap::Value;
+use js_steps::at_once::statements_at_once;
 use js_steps::evaluate::evaluate;
 use js_steps::execute::execute;
 use js_steps::follow::follow;
@@ -80,7 +81,7 @@ pub fn advance<'p, 'a, C: Choices, O: Sink>(
     match task {
         Task::Evaluate(i) => next(evaluate(env, state, stack, i)),
         Task::Execute(i) => next(execute(env, state, stack, i)),
-        Task::Statements(i) => next(statements(state, stack, i)),
+        Task::Statements(i) => next(statements_at_once(env, state, stack, i)),
         Task::Else(i) => next(otherwise(env, state, stack, i)),
         Task::Through(i) => next(through(state, stack, i)),
         Task::Give(v) => next(give_top(env, state, stack, v)),

@@ -21,7 +21,7 @@ returns-in-Execute g c = record {
 pub returns-in-Statements : goal.returns-in-Statements
 returns-in-Statements g c = record {
   keeps =
-      by_task c.args.env.now c.args.stack.now.items c.statements.new.stack.items c.args.state.now c.args.state.now _ _ c.args.task (task.Statements c.in-Statements.i) c.statements.result c.next-in-Statements.result c.in-Statements.is c.next-in-Statements.ensures.value (any_env c.args.env.now c.args.stack.now.items c.statements.new.stack.items c.args.state.now c.args.state.now c.statements.result (λ st. task_does st (task.Statements c.in-Statements.i)) c.statements.ensures.keeps);
+      by_task c.args.env.now c.args.stack.now.items c.statements_at_once.new.stack.items c.args.state.now c.statements_at_once.new.state _ _ c.args.task (task.Statements c.in-Statements.i) c.statements_at_once.result c.next-in-Statements.result c.in-Statements.is c.next-in-Statements.ensures.value (any_env c.args.env.now c.args.stack.now.items c.statements_at_once.new.stack.items c.args.state.now c.statements_at_once.new.state c.statements_at_once.result (λ st. task_does st (task.Statements c.in-Statements.i)) c.statements_at_once.ensures.keeps);
   room = omega arith;
 }
 
