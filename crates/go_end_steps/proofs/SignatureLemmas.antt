@@ -1,6 +1,6 @@
 -- The signature `func() string`, and a list of one.
 use Rattle.std.proofs.Common.{◌≡◌, refl, ap, sym, ◌∙◌, arith, length, List, [], ◌∷◌}
-use Rattle.std.specs.Prelude.{ℕ, ◌<◌, Bool, true, false, ◌&&◌, Some, None}
+use Rattle.std.specs.Prelude.{◌<◌, Bool, true, false, ◌&&◌, Some, None}
 use Rattle.go_type.specs.Tree.{Ty, str, no_tys}
 use Rattle.go_type.specs.Levels.{level, tree_of, trees_of}
 use Rattle.go_type.specs.declared.types.GoType.{GoType}

@@ -1,6 +1,6 @@
 -- Texts that are told.
-use Rattle.std.proofs.Common.{◌≡◌, refl, ap, sym, ◌∙◌, ℕ, List, [], ◌∷◌}
-use Rattle.std.specs.Prelude.{Bool, true, false, Option, Some, None}
+use Rattle.std.proofs.Common.{◌≡◌, refl, ℕ, List, [], ◌∷◌}
+use Rattle.std.specs.Prelude.{Option, Some, None}
 use Rattle.go_type.specs.Tree.{Ty, str}
 use Rattle.go_type.specs.Levels.{level}
 use Rattle.go_type.specs.declared.types.GoType.{GoType}
@@ -12,7 +12,7 @@ use Rattle.go_core.specs.Memory.{Value}
 use Rattle.go_core.specs.Goroutine.{State, moved, panicked}
 use Rattle.go_core.specs.Panics.{reported}
 use Rattle.go_core.specs.StepInterfaces.{content_text, composite_text}
-use Rattle.go_end_steps.specs.Told.{text_scalar, text_of, told_of}
+use Rattle.go_end_steps.specs.Told.{told_of}
 
 -- what is told, by the text, if any
 abbrev pub tells : Option (List ℕ) → State → Option State

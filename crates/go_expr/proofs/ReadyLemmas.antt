@@ -1,8 +1,6 @@
 -- An expression is ready once the functions that are called in it have their types.
-use Rattle.std.proofs.Common.{arith, ◌≡◌, ◌<◌, zero, suc, sym, subst, length, get_or, map, ℕ, List, [], ◌∷◌, ◌++◌, Option, Some, None}
+use Rattle.std.proofs.Common.{ℕ, List, [], ◌∷◌, ◌++◌, Option, Some, None}
 use Rattle.go_syntax.specs.Tree.{Expr, NameExpr, IntExpr, RuneExpr, StrExpr, ParenExpr, UnaryExpr, BinaryExpr, SelectExpr, IndexExpr, SliceExpr, AssertExpr, CallExpr, LiteralExpr, FuncExpr, ArrayType, SliceType, StructType, FuncType, InterfaceType, MapType, ChanType, MaybeExpr, NoExpr, AnExpr, Exprs, NoExprs, MoreExprs}
-use Rattle.go_syntax.specs.declared.tree.Expr as tree
-use Rattle.go_syntax.specs.View.{expr_view, exprs_of}
 use Rattle.go_typing.specs.Env.{Bind}
 use Rattle.go_callee.specs.declared.gives.Gives.{Gives}
 use Rattle.go_callee.specs.Called.{name_in, one_name, called_in, called_in_bound, called_in_all}
@@ -65,8 +63,3 @@ module _ (ss : List (List Bind)) (g : Gives) where
     all_ready : (es : Exprs) → AreGiven ss g (called_in_all es) → AllFit es → AllReady ss g es
     all_ready NoExprs h n = tt
     all_ready (MoreExprs x xs) h n = (ready x (first (called_in x) (called_in_all xs) h) n.0, all_ready xs (second (called_in x) (called_in_all xs) h) n.1)
-
-  pub ready_at : (xs : List tree.Expr) (i : ℕ) (x : tree.Expr) → i < length xs → x ≡ get_or xs i x → AllReady ss g (exprs_of (map expr_view xs)) → IsReady ss g (expr_view x)
-  ready_at [] i x l e h = absurd (omega arith)
-  ready_at (y ∷ xs) zero x l e h = subst (λ (z : tree.Expr). IsReady ss g (expr_view z)) (sym e) h.0
-  ready_at (y ∷ xs) (suc i) x l e h = ready_at xs i x (omega arith) e h.1

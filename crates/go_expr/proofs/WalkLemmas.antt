@@ -1,6 +1,6 @@
 -- What the walk does at each form.
-use Rattle.std.proofs.Common.{arith, ◌≡◌, ◌<◌, ◌≤◌, ◌+◌, ℕ, ◌∙◌, refl, sym, ap, subst, List, [], ◌∷◌, ◌++◌, append_assoc, length, drop, get_or, drop-cons, add-one, zero, suc, map, Bool, true, false, Option, Some, None, is_some}
-use Rattle.std.proofs.lemmas.List.{length-append, append-nil}
+use Rattle.std.proofs.Common.{◌≡◌, ℕ, ◌∙◌, refl, sym, ap, subst, List, [], ◌∷◌, ◌++◌, append_assoc, drop, map, Bool, true, false, Option, Some, None, is_some}
+use Rattle.std.proofs.lemmas.List.{append-nil}
 use Rattle.std.specs.Prelude.{option_map}
 use Rattle.gj_base.specs.declared.place.Place.{Place}
 use Rattle.gj_base.specs.declared.kind.Op.{Op}
@@ -8,7 +8,7 @@ use Rattle.gj_base.specs.declared.kind.Op.TheVariants as operator
 use Rattle.go_syntax.specs.declared.tree.Expr as tree
 use Rattle.go_syntax.specs.declared.tree.Prefix.{Prefix}
 use Rattle.go_syntax.specs.declared.tree.Prefix.TheVariants as «prefix»
-use Rattle.go_syntax.specs.Tree.{Expr, ParenExpr, UnaryExpr, BinaryExpr, IndexExpr, SliceExpr, CallExpr, NoExpr, Exprs}
+use Rattle.go_syntax.specs.Tree.{Expr, ParenExpr, UnaryExpr, BinaryExpr, IndexExpr, SliceExpr, CallExpr, Exprs}
 use Rattle.go_syntax.specs.View.{expr_view, exprs_of, maybe_expr}
 use Rattle.go_type.specs.Tree.{Ty, Tys}
 use Rattle.go_type.specs.Named.{NamedTy}
@@ -24,35 +24,8 @@ use Rattle.go_answers.specs.AnswerView.{flaw_view}
 use Rattle.go_operands.specs.declared.part.Part as code_part
 use Rattle.go_operands.specs.Parts.{part}
 use Rattle.go_given.specs.CallView.{parts_view}
-use Rattle.go_parts.specs.Stacked.{Hears, DoesOne, DoesTwo, DoesSlice, one_part, counted, waiting}
-use Rattle.go_expr.specs.Walked.{Walks, WalksBound, WalksAll, op_of}
-
--- ---- how many wait
-
-view_length : (ts : List Ty) (ps : List code_part.Part) → length (parts_view ts ps) ≡ length ps
-view_length ts [] = refl
-view_length ts (p ∷ ps) = ap suc (view_length ts ps)
-
-one_more : {A : Type 0} (xs : List A) (x : A) → length (xs ++ x ∷ []) ≡ length xs + 1
-one_more xs x = omega (arith, length-append xs (x ∷ []))
-
-bound_more : (xs : List Part) (o : Option Part) → length (xs ++ one_part o) ≡ length xs + counted (is_some o)
-bound_more xs None = omega (arith, length-append xs [])
-bound_more xs (Some x) = omega (arith, length-append xs (x ∷ []))
-
-pub longer : (ts : List Ty) (x : Part) (old new : List code_part.Part) → parts_view ts new ≡ parts_view ts old ++ x ∷ [] → length new ≡ length old + 1
-longer ts x old new e =
-    sym (view_length ts new) ∙ ap length e ∙ one_more (parts_view ts old) x ∙ ap (λ (n : ℕ). n + 1) (view_length ts old)
-
-pub longer_by : (ts : List Ty) (o : Option Part) (old new : List code_part.Part) → parts_view ts new ≡ parts_view ts old ++ one_part o → length new ≡ length old + counted (is_some o)
-longer_by ts o old new e =
-    sym (view_length ts new) ∙ ap length e ∙ bound_more (parts_view ts old) o ∙ ap (λ (n : ℕ). n + counted (is_some o)) (view_length ts old)
-
-drop-past : {A : Type 0} (xs : List A) (n : ℕ) → length xs ≤ n → drop n xs ≡ []
-drop-past [] zero l = refl
-drop-past [] (suc n) l = refl
-drop-past (x ∷ xs) zero l = absurd (omega arith)
-drop-past (x ∷ xs) (suc n) l = drop-past xs n (omega arith)
+use Rattle.go_parts.specs.Stacked.{Hears, DoesOne, DoesTwo, DoesSlice, one_part, waiting}
+use Rattle.go_expr.specs.Walked.{Walks, WalksBound, op_of}
 
 -- ---- operators before operands
 
@@ -190,12 +163,6 @@ module _ (ts : List Ty) (ns : List NamedTy) (ss : List (List Bind)) where
   is_bound None = refl
   is_bound (Some x) = refl
 
-  -- how many wait after a bound
-  pub bound_longer : (o : Option tree.Expr) (b : Bool) (old new : List code_part.Part) → b ≡ is_some o → parts_view ts new ≡ parts_view ts old ++ one_part (bound_part ns ss (maybe_expr (option_map expr_view o)))
-      → length new ≡ length old + counted b
-  bound_longer o b old new h e =
-      longer_by ts (bound_part ns ss (maybe_expr (option_map expr_view o))) old new e ∙ ap (λ (c : Bool). length old + counted c) (is_bound o ∙ sym h)
-
   pub slice : (v : Expr) (at : Place) (x : Expr) (low high most : Option tree.Expr) (l h m : Bool) (p0 p1 p2 p3 p4 p5 : List code_part.Part) (f0 f1 f2 f3 f4 f5 : List code.Flaw)
       → v ≡ SliceExpr at x (maybe_expr (option_map expr_view low)) (maybe_expr (option_map expr_view high)) (maybe_expr (option_map expr_view most))
       → l ≡ is_some low → h ≡ is_some high → m ≡ is_some most
@@ -268,35 +235,7 @@ module _ (ts : List Ty) (ns : List NamedTy) (ss : List (List Bind)) where
 
   -- ---- several
 
-  pub bound_some : (x : tree.Expr) (p0 p1 : List code_part.Part) (f0 f1 : List code.Flaw) → Walks ts ns ss (expr_view x) p0 p1 f0 f1 → WalksBound ts ns ss (maybe_expr (option_map expr_view (Some x))) p0 p1 f0 f1
-  bound_some x p0 p1 f0 f1 w = record { parts = w.parts; flaws = w.flaws }
-
-  pub bound_none : (p0 : List code_part.Part) (f0 : List code.Flaw) → WalksBound ts ns ss NoExpr p0 p0 f0 f0
-  bound_none p0 f0 = record { parts = sym (append-nil (parts_view ts p0)); flaws = sym (append-nil (told f0)) }
-
   -- so far, and what is left
   pub record Reaches (xs : List tree.Expr) (i : ℕ) (old new : List code_part.Part) (before after : List code.Flaw) : Type 0 where
     pub waits : parts_view ts new ++ go.parts ns ss (exprs_of (map expr_view (drop i xs))) ≡ parts_view ts old ++ go.parts ns ss (exprs_of (map expr_view xs))
     pub tells : told after ++ all_flaws ns ss (exprs_of (map expr_view (drop i xs))) ≡ told before ++ all_flaws ns ss (exprs_of (map expr_view xs))
-
-  pub begins : (xs : List tree.Expr) (p0 : List code_part.Part) (f0 : List code.Flaw) → Reaches xs 0 p0 p0 f0 f0
-  begins xs p0 f0 = record { waits = refl; tells = refl }
-
-  pub goes_on : (xs : List tree.Expr) (i j : ℕ) (x : tree.Expr) (p0 p1 p2 : List code_part.Part) (f0 f1 f2 : List code.Flaw) → i < length xs → j ≡ i + 1 → x ≡ get_or xs i x
-      → Reaches xs i p0 p1 f0 f1 → Walks ts ns ss (expr_view x) p1 p2 f1 f2 → Reaches xs j p0 p2 f0 f2
-  goes_on xs i j x p0 p1 p2 f0 f1 f2 l k e r w =
-      let more : drop i xs ≡ x ∷ drop j xs = drop-cons xs i x l ∙ ap (λ (y : tree.Expr). y ∷ drop (suc i) xs) (sym e) ∙ ap (λ (n : ℕ). x ∷ drop n xs) (sym (k ∙ add-one i)) in
-      record {
-        waits = ap (λ (zs : List Part). zs ++ (go.parts ns ss (exprs_of (map expr_view (drop j xs))))) w.parts ∙ append_assoc (parts_view ts p1) (as_part (expr_view x) ∷ []) (go.parts ns ss (exprs_of (map expr_view (drop j xs))))
-            ∙ ap (λ (ys : List tree.Expr). parts_view ts p1 ++ go.parts ns ss (exprs_of (map expr_view ys))) (sym more) ∙ r.waits;
-        tells = ap (λ (zs : List Flaw). zs ++ (all_flaws ns ss (exprs_of (map expr_view (drop j xs))))) w.flaws ∙ append_assoc (told f1) (flaws (expr_view x)) (all_flaws ns ss (exprs_of (map expr_view (drop j xs))))
-            ∙ ap (λ (ys : List tree.Expr). told f1 ++ all_flaws ns ss (exprs_of (map expr_view ys))) (sym more) ∙ r.tells;
-      }
-
-  pub ends : (xs : List tree.Expr) (n : ℕ) (p0 p1 : List code_part.Part) (f0 f1 : List code.Flaw) → length xs ≤ n → Reaches xs n p0 p1 f0 f1 → WalksAll ts ns ss (exprs_of (map expr_view xs)) p0 p1 f0 f1
-  ends xs n p0 p1 f0 f1 l r =
-      let none : drop n xs ≡ [] = drop-past xs n l in
-      record {
-        parts = sym (append-nil (parts_view ts p1)) ∙ ap (λ (ys : List tree.Expr). parts_view ts p1 ++ go.parts ns ss (exprs_of (map expr_view ys))) (sym none) ∙ r.waits;
-        flaws = sym (append-nil (told f1)) ∙ ap (λ (ys : List tree.Expr). told f1 ++ all_flaws ns ss (exprs_of (map expr_view ys))) (sym none) ∙ r.tells;
-      }

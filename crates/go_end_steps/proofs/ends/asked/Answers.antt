@@ -1,4 +1,4 @@
-use Rattle.std.proofs.Common.{◌≡◌, ◌∙◌, ◌∷◌, [], sym, ap, ℕ, List}
+use Rattle.std.proofs.Common.{◌∙◌, ◌∷◌, [], ap, List}
 use Rattle.std.specs.Prelude.{Option, None}
 use Rattle.go_type.specs.Table.{places}
 use Rattle.go_core.specs.Calls as calls

@@ -1,11 +1,11 @@
-use Rattle.std.proofs.Common.{◌≡◌, ◌∙◌, [], sym, ap, arith, ℕ, List}
+use Rattle.std.proofs.Common.{◌∙◌, sym, ap, arith, List}
 use Rattle.go_type.specs.Table.{places}
 use Rattle.go_core.specs.CoreView.{program_view}
 use Rattle.go_core.specs.Goroutine as defined
 use Rattle.go_core.specs.Goroutine.{with_memory}
 use Rattle.go_core.specs.Panics.{deferred_step, end_by_mode, ended_step}
 use Rattle.go_values.specs.Seen.{memory_of}
-use Rattle.go_state.specs.Seen.{frame_of, invocation_of, mode_of, stacked}
+use Rattle.go_state.specs.Seen.{frame_of, invocation_of, stacked}
 use Rattle.go_state.specs.declared.frame.Invocation.{Invocation}
 use Rattle.go_end_steps.proofs.FrameLemmas.{call_above, leaves_as, none_there, none_left}
 use Rattle.go_end_steps.proofs.ends.end_step.Goals as goal

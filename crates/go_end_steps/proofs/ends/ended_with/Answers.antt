@@ -1,4 +1,4 @@
-use Rattle.std.proofs.Common.{◌≡◌, ap, ℕ, List}
+use Rattle.std.proofs.Common.{ap}
 use Rattle.std.specs.Prelude.{Some}
 use Rattle.go_core.specs.Goroutine.{with_memory}
 use Rattle.go_core.specs.Panics.{ended_with}

@@ -1,4 +1,4 @@
-use Rattle.std.proofs.Common.{◌≡◌, ◌∙◌, ◌∷◌, [], sym, ap, arith, ℕ, List}
+use Rattle.std.proofs.Common.{◌∙◌, ◌∷◌, [], ap, arith, List}
 use Rattle.std.specs.Prelude.{None}
 use Rattle.go_core.specs.Frames.{with_more}
 use Rattle.go_core.specs.Goroutine as defined

@@ -3,7 +3,6 @@ use Rattle.std.specs.Prelude.{Option, Some}
 use Rattle.go_type.specs.Table.{places, names}
 use Rattle.go_type.specs.declared.table.TypeTable.{TypeTable}
 use Rattle.go_core.specs.CoreView.{program_view}
-use Rattle.go_core.specs.Goroutine as defined
 use Rattle.go_core.specs.Goroutine.{moved, panicked, with_memory}
 use Rattle.go_core.specs.Panics.{report_begun}
 use Rattle.go_core.specs.StepInterfaces.{plain_text}

@@ -1,7 +1,6 @@
-use Rattle.std.proofs.Common.{◌≡◌, ◌∙◌, [], refl, sym, ap, ℕ, List}
+use Rattle.std.proofs.Common.{◌∙◌, [], sym, ap, ℕ, List}
 use Rattle.std.specs.Prelude.{Option, option_map, Some}
 use Rattle.std.specs.Borrow.{Bor}
-use Rattle.go_core.specs.Goroutine as defined
 use Rattle.go_core.specs.Goroutine.{moved, with_memory}
 use Rattle.go_values.specs.Seen.{values_of, memory_of}
 use Rattle.go_state.specs.Seen.{frame_of, stacked}

@@ -1,4 +1,4 @@
-use Rattle.std.proofs.Common.{◌≡◌, ◌∙◌, sym, ap}
+use Rattle.std.proofs.Common.{◌∙◌, sym, ap}
 use Rattle.go_state.proofs.TodoLemmas.{if_ok}
 use Rattle.go_core.specs.Memory as core
 use Rattle.go_core.specs.StepInterfaces.{content_text}

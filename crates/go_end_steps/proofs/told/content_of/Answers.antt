@@ -1,5 +1,4 @@
-use Rattle.std.proofs.Common.{◌≡◌, ◌∙◌, ◌∷◌, [], sym, ap, List}
-use Rattle.std.specs.Borrow.{Bor}
+use Rattle.std.proofs.Common.{◌∙◌, ◌∷◌, [], sym, ap}
 use Rattle.go_core.specs.Memory as core
 use Rattle.go_core.specs.Memory.{Value}
 use Rattle.go_core.specs.Panics.{content_of}

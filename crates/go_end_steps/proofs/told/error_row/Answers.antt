@@ -1,4 +1,4 @@
-use Rattle.std.proofs.Common.{◌≡◌, ◌∙◌, sym, ap}
+use Rattle.std.proofs.Common.{◌∙◌, sym, ap}
 use Rattle.go_type.specs.Table.{places}
 use Rattle.go_core.specs.CoreView.{program_view}
 use Rattle.go_core.specs.Memory as core

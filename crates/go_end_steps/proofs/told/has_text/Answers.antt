@@ -1,4 +1,4 @@
-use Rattle.std.proofs.Common.{◌≡◌, ◌∙◌, refl, sym, ap, arith, length, List}
+use Rattle.std.proofs.Common.{◌∙◌, refl, ap, arith, length, List}
 use Rattle.go_type.specs.Levels.{trees_of}
 use Rattle.go_type.specs.Table.{places}
 use Rattle.go_type.specs.declared.types.TypeId.{TypeId}

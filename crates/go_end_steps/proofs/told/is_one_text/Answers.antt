@@ -1,4 +1,4 @@
-use Rattle.std.proofs.Common.{◌≡◌, ◌∙◌, sym, ap, arith, get_or, List}
+use Rattle.std.proofs.Common.{◌∙◌, sym, ap, arith, get_or, List}
 use Rattle.go_type.specs.Levels.{trees_of}
 use Rattle.go_type.specs.Table.{places}
 use Rattle.go_type.specs.declared.types.TypeId.{TypeId}

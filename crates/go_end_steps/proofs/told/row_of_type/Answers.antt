@@ -1,11 +1,9 @@
-use Rattle.std.proofs.Common.{◌≡◌, ◌∙◌, [], sym, ap, ℕ, List, true, false}
-use Rattle.std.specs.Prelude.{Option, None, Bool, if◌then◌else◌, codes}
-use Rattle.go_type.specs.Levels.{tree_of}
+use Rattle.std.proofs.Common.{◌∙◌, sym, ap, ℕ, false}
+use Rattle.std.specs.Prelude.{Option, None, Bool, if◌then◌else◌}
 use Rattle.go_type.specs.Table.{places}
 use Rattle.go_type.specs.Tree.{no_tys}
-use Rattle.go_core.specs.CoreTree.{CoreFunc, MethodName}
 use Rattle.go_core.specs.CoreView.{program_view}
-use Rattle.go_core.specs.StepInterfaces.{func_of_row, has_signature, one_string, row_of}
+use Rattle.go_core.specs.StepInterfaces.{func_of_row, has_signature, one_string}
 use Rattle.go_end_steps.proofs.told.row_of_type.Goals as goal
 
 pub returns-then-answers_text : goal.returns-then-answers_text

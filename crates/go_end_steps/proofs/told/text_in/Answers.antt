@@ -1,4 +1,4 @@
-use Rattle.std.proofs.Common.{◌≡◌, ◌∙◌, sym, ap}
+use Rattle.std.proofs.Common.{◌∙◌, sym, ap}
 use Rattle.go_core.specs.Memory as core
 use Rattle.go_values.specs.Seen.{scalar_of}
 use Rattle.go_values.specs.declared.scalar.Scalar.{Scalar}
