@@ -1,9 +1,8 @@
 -- How many values there are, one after another.
-use Rattle.std.proofs.Common.{◌≡◌, refl, ap, sym, ◌∙◌, arith, ℕ, suc, ◌+◌, ◌<◌, ◌≤◌, List, [], ◌∷◌, length, get_or, map}
+use Rattle.std.proofs.Common.{◌≡◌, refl, ap, ◌∙◌, arith, ℕ, suc, ◌+◌, ◌<◌, ◌≤◌, List, [], ◌∷◌, length, get_or, map}
 use Rattle.go_type.specs.Tree.{Ty}
 use Rattle.go_type.specs.Levels.{trees_of}
 use Rattle.go_type.specs.declared.types.TypeId.{TypeId}
-use Rattle.go_core.specs.CoreTree as core
 use Rattle.go_core.specs.Opened as opened
 use Rattle.go_core.specs.Opened.{type_count, pair_count}
 use Rattle.go_core.specs.CoreView.{expr_view, communication_view, pairs_of}

@@ -1,5 +1,5 @@
 -- Which tasks of the definitions those of the program stand for.
-use Rattle.std.specs.Prelude.{◌≡◌, ℕ, List, [], ◌∷◌, false, Option, Some, None, length}
+use Rattle.std.specs.Prelude.{◌≡◌, List, [], ◌∷◌, false, Option, Some, None, length}
 use Rattle.go_type.specs.Tree.{Ty}
 use Rattle.go_type.specs.Levels.{tree_of}
 use Rattle.go_core.specs.CoreView.{var_of, expr_view, callee_view, stmts_view, branch_of}

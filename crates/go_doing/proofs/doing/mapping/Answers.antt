@@ -1,4 +1,4 @@
-use Rattle.std.proofs.Common.{◌≡◌, ◌+◌, arith, ap, ◌∷◌, ℕ, List}
+use Rattle.std.proofs.Common.{◌≡◌, ◌+◌, arith, ap, ◌∷◌, ℕ}
 use Rattle.go_type.specs.Levels.{tree_of}
 use Rattle.go_core.specs.Goroutine as defined
 use Rattle.go_core.specs.Opened.{pair_count}

@@ -1,8 +1,5 @@
-use Rattle.std.proofs.Common.{ap, sym, ◌∷◌, ℕ, List, map}
-use Rattle.go_core.specs.CoreView.{callee_view, stmts_view, target_view}
+use Rattle.std.proofs.Common.{ap, sym, ◌∷◌, ℕ}
 use Rattle.go_core.specs.Goroutine as defined
-use Rattle.go_core.specs.Opened as opened
-use Rattle.go_tasks.specs.Seen.{cases_view}
 use Rattle.go_doing.proofs.doing.returning.Goals as goal
 
 pub returns : goal.returns

@@ -1,4 +1,4 @@
-use Rattle.std.proofs.Common.{◌≡◌, ap, sym, subst, refl, arith, List, []}
+use Rattle.std.proofs.Common.{ap, sym, subst, arith, List, []}
 use Rattle.std.specs.Prelude.{Option, slice_get}
 use Rattle.std.proofs.lemmas.Result.{IfOk-weaker}
 use Rattle.go_type.specs.Tree.{Ty}
