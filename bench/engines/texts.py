@@ -1,13 +1,14 @@
-"""Writes the rows into crates/js_tests, whose tests read the scripts and run them.
+"""Writes the rows into crates/js_tests and crates/run_tests, whose tests read the scripts and run
+them.
 
-Run it after an edit of rows.txt, and `rt fmt` in crates/js_tests after it.
+Run it after an edit of rows.txt, and `rt fmt` in both crates after it.
 """
 
 import os
 
 from rows import HERE, rows
 
-CRATE = os.path.join(HERE, "..", "..", "crates", "js_tests")
+CRATES = [os.path.join(HERE, "..", "..", "crates", name) for name in ("js_tests", "run_tests")]
 A_FILE = 15  # rows
 
 HEAD = """//! Scripts that node and mujs ran as these rows say: {first} to {last}. Written by
@@ -41,5 +42,6 @@ if __name__ == "__main__":
     for k in range(0, len(found), A_FILE):
         part = found[k : k + A_FILE]
         head = HEAD.format(first=part[0].name, last=part[-1].name, count=len(part))
-        with open(os.path.join(CRATE, "src", f"rows_{k // A_FILE + 1}.rt"), "w", encoding="utf-8") as f:
-            f.write(head + "".join(map(row_text, part)) + "];\n")
+        for crate in CRATES:
+            with open(os.path.join(crate, "src", f"rows_{k // A_FILE + 1}.rt"), "w", encoding="utf-8") as f:
+                f.write(head + "".join(map(row_text, part)) + "];\n")

@@ -38,9 +38,9 @@ ALONE = {"deep": "1000000", "ticks": str((50000000 * 49999999 // 2 + 2**31) % 2*
 TURNS = 5
 
 
-def limit():
-    """Lets a command have 24 GiB of memory."""
-    resource.setrlimit(resource.RLIMIT_AS, (24 << 30, 24 << 30))
+def limit(gibibytes=24):
+    """Lets a command have so much memory."""
+    resource.setrlimit(resource.RLIMIT_AS, (gibibytes << 30, gibibytes << 30))
 
 
 def run(command, script):
@@ -99,6 +99,15 @@ def alone(program, folder, name, wanted):
     print(f"{name:11}{time:8.2f}{peak:46}")
 
 
+def exhausted(program, folder, name):
+    """A script that takes more memory than there is ends with that being told."""
+    with open(script_files(folder, name)[0], "rb") as given:
+        done = subprocess.run([program], stdin=given, capture_output=True, preexec_fn=lambda: limit(1))
+    if done.returncode != 0 or done.stderr.decode() != "no memory\n":
+        sys.exit(f"{name}: status {done.returncode}, {done.stderr.decode()}")
+    print(f"{name:11}no memory, of 1 GiB")
+
+
 def main():
     program, good = os.path.abspath(sys.argv[1]), True
     print("             seconds of processor   ratio of times       KiB at the peak       ratio of memory")
@@ -108,6 +117,7 @@ def main():
             good = compare(program, folder, name) and good
         for name, wanted in ALONE.items():
             alone(program, folder, name, wanted)
+        exhausted(program, folder, "memory")
     return 0 if good else 1
 
 

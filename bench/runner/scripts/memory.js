@@ -1,0 +1,7 @@
+function $start(){
+  var $a = [];
+  while(true){
+    $a.push($a);
+  }
+}
+$start();
