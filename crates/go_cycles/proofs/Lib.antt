@@ -1,2 +1,2 @@
-mod Among
-mod Reached
+pub mod Among
+pub mod Reached

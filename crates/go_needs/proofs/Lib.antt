@@ -1,0 +1,6 @@
+mod Steps
+mod ParamLemmas
+mod NumberLemmas
+mod EdgeLemmas
+mod CircleLemmas
+mod ToldLemmas
