@@ -1,0 +1,4 @@
+pub mod FoundLemmas
+pub mod AssignLemmas
+pub mod CountLemmas
+pub mod PlaceLemmas
