@@ -1,0 +1,5 @@
+mod Steps
+mod BindLemmas
+pub mod TypeLemmas
+mod StandLemmas
+mod SettleLemmas
