@@ -7,8 +7,8 @@ use Rattle.go_type.specs.Tree.{Ty}
 use Rattle.go_core.specs.CoreTree as core
 use Rattle.go_core.specs.CoreTree.{CoreProgram, Stmts, Var}
 use Rattle.go_core.specs.CoreView.{communication_view, stmts_view}
-use Rattle.go_core.specs.Communicate.{offer_before, offers_by, offers_from, clause_tasks, send_offer, receive_offer, named_channel}
-use Rattle.go_core.specs.Goroutine.{Task, Offer, Case, CaseKind, case_sends, case_receives, Move}
+use Rattle.go_core.specs.Communicate.{offer_before, offers_by, offers_from, clause_tasks, receive_offer}
+use Rattle.go_core.specs.Goroutine.{Task, Offer, case_sends, case_receives, Move}
 use Rattle.go_core.specs.Memory.{Value}
 use Rattle.go_core.specs.Opened.{cases_of, case_kind, all_opened}
 use Rattle.go_core.specs.declared.statement.Communication.{Communication}

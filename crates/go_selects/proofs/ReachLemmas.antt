@@ -5,12 +5,12 @@ use Rattle.std.specs.Prelude.{unwrap_or}
 use Rattle.std.proofs.lemmas.Option.{slice_get-get_or}
 use Rattle.go_type.specs.Tree.{Ty}
 use Rattle.go_core.specs.CoreTree.{CoreProgram}
-use Rattle.go_core.specs.Communicate.{reached, way_taken, frames_of}
+use Rattle.go_core.specs.Communicate.{reached, way_taken}
 use Rattle.go_core.specs.Control.{with_first}
 use Rattle.go_core.specs.Frames.{to_panicking}
 use Rattle.go_core.specs.RunPanic.{panic_value}
 use Rattle.go_values.specs.Seen.{panic_of}
-use Rattle.go_core.specs.Goroutine.{Task, Frame, State, Move, Offer, Waiting, able, at_channels, Goroutine, moved}
+use Rattle.go_core.specs.Goroutine.{Task, Frame, State, Move, Offer, at_channels, Goroutine, moved}
 use Rattle.go_operators.specs.declared.did.Stop.{Stop}
 use Rattle.go_operators.specs.declared.did.Stop.TheVariants as stop
 use Rattle.go_state.specs.Seen.{frame_of, state_of, waiting_of}
@@ -19,7 +19,6 @@ use Rattle.go_state.specs.declared.state.State as held
 use Rattle.go_state.specs.declared.state.Waiting.TheVariants as waiting
 use Rattle.go_exchanges.specs.Moves.{TalkStep, Halts, Moves, frames_below, with_frames, waiting_in}
 use Rattle.go_exchanges.proofs.PlacesLemmas.{set_twice}
-use Rattle.go_exchanges.proofs.WakeLemmas.{moved_over}
 use Rattle.go_exchanges.proofs.TakeLemmas.{frame_moves}
 use Rattle.go_selects.specs.Talks.{Talks, settled}
 use Rattle.go_selects.specs.declared.reach.Talked.{Talked}

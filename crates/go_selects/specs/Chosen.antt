@@ -1,5 +1,5 @@
 -- The default, and the way that is chosen. These words are for private clauses, but for `default_of`.
-use Rattle.std.specs.Prelude.{◌≡◌, ℕ, ◌%◌, get_or, length, List, [], ◌∷◌, Option, Some, None, option_map}
+use Rattle.std.specs.Prelude.{◌≡◌, ℕ, List, Option, Some, None}
 use Rattle.std.specs.Borrow.{Bor}
 use Rattle.go_type.specs.Tree.{Ty}
 use Rattle.go_core.specs.CoreTree.{CoreProgram}

@@ -1,11 +1,10 @@
-use Rattle.std.proofs.Common.{◌≡◌, ◌<◌, ◌≤◌, ◌∙◌, ◌+◌, ◌++◌, refl, ap, sym, subst, arith, ℕ, List, [], ◌∷◌, drop, length, map}
-use Rattle.std.specs.Prelude.{Option, option_map}
+use Rattle.std.proofs.Common.{◌≡◌, ◌<◌, ◌≤◌, ◌∙◌, ◌+◌, ◌++◌, refl, ap, sym, subst, arith, List, [], ◌∷◌, drop, length, map}
+use Rattle.std.specs.Prelude.{option_map}
 use Rattle.std.specs.Borrow.{Bor}
 use Rattle.std.proofs.lemmas.List.{drop-drop, drop_all, length-drop, length-map, map-append}
 use Rattle.go_type.specs.Table.{places}
 use Rattle.go_core.specs.Communicate.{offers_by, offers_from}
 use Rattle.go_core.specs.CoreTree as core
-use Rattle.go_core.specs.Goroutine.{Offer}
 use Rattle.go_core.specs.Opened.{cases_of}
 use Rattle.go_core.specs.declared.statement.CoreCases.{out-CoreCases}
 use Rattle.go_tasks.specs.Seen.{case_view, cases_from}

@@ -1,4 +1,4 @@
-use Rattle.std.proofs.Common.{◌≡◌, ◌≤◌, ◌<◌, ◌∙◌, ap, sym, subst, arith, drop, length, List, ◌∷◌}
+use Rattle.std.proofs.Common.{◌≤◌, ◌∙◌, ap, sym, subst, arith, drop, length, List}
 use Rattle.std.specs.Prelude.{Option}
 use Rattle.std.specs.Borrow.{Bor}
 use Rattle.std.proofs.lemmas.List.{length-map}
@@ -8,7 +8,6 @@ use Rattle.go_core.specs.Communicate.{offer_before, offers_by}
 use Rattle.go_core.specs.CoreView.{stmts_view}
 use Rattle.go_core.specs.Goroutine as core
 use Rattle.go_core.specs.Goroutine.{case_sends}
-use Rattle.go_core.specs.Memory.{Value}
 use Rattle.go_values.specs.Seen.{value_of, values_of}
 use Rattle.go_values.specs.declared.scalar.Scalar.{Scalar}
 use Rattle.go_state.specs.Seen.{offer_of}

@@ -1,4 +1,4 @@
-use Rattle.std.proofs.Common.{◌≡◌, ◌≤◌, ◌<◌, ◌%◌, refl, arith, length}
+use Rattle.std.proofs.Common.{◌≤◌, ◌<◌, ◌%◌, refl, arith, length}
 use Rattle.go_state.specs.Seen.{state_of}
 use Rattle.go_exchanges.specs.Moves.{with_frames}
 use Rattle.go_selects.proofs.ReachLemmas.{chosen_one, chosen_more, only_one}

@@ -1,5 +1,4 @@
-use Rattle.std.proofs.Common.{ap, ◌∙◌, sym, [], ◌∷◌, List}
-use Rattle.std.specs.List.{fold}
+use Rattle.std.proofs.Common.{ap, ◌∙◌, sym, [], List}
 use Rattle.std.proofs.lemmas.List.Sums.{fold-append}
 use Rattle.go_core.specs.CoreTree.{Stmts}
 use Rattle.go_core.specs.Goroutine as defined

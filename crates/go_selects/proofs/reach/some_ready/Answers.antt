@@ -2,7 +2,6 @@ use Rattle.std.proofs.Common.{◌≡◌, ap, ◌∙◌, sym, List, map}
 use Rattle.std.specs.Prelude.{Ok, Err, slice_get}
 use Rattle.std.specs.Global.{Vec}
 use Rattle.go_core.specs.Communicate.{frames_of, reached, way_taken}
-use Rattle.go_core.specs.Goroutine as defined
 use Rattle.go_state.specs.Seen.{frame_of, goroutine_of, move_of, offer_of, state_of}
 use Rattle.go_state.specs.declared.state.Goroutine as held_goroutine
 use Rattle.go_state.specs.declared.state.Offer as held_offer

@@ -1,4 +1,4 @@
-use Rattle.std.proofs.Common.{ap, ◌∙◌, arith, ◌≤◌, ◌<◌, length, map}
+use Rattle.std.proofs.Common.{ap, arith, ◌≤◌, ◌<◌, length}
 use Rattle.std.specs.Prelude.{Option}
 use Rattle.go_core.specs.Communicate.{offer_taken}
 use Rattle.go_core.specs.Goroutine as defined
