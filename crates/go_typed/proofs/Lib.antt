@@ -1,0 +1,3 @@
+mod RawLemmas
+mod Steps
+mod ReadyLemmas
