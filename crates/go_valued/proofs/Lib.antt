@@ -1,0 +1,3 @@
+mod ConditionLemmas
+mod TakenLemmas
+mod ToldLemmas
