@@ -19,10 +19,10 @@ use Rattle.go_core.specs.StepMemory.{count_of}
 use Rattle.go_core.specs.StepMaps.{entries_in}
 use Rattle.go_core.specs.Control as k
 use Rattle.go_core.specs.Goroutine.{Cursor, numbers, copied, elements, characters, entries}
-use Rattle.go_core.specs.Leaves.{Leaf, leaf, or_filler, times, leaves_with, leaves_under, name_leaves, leaves_of, Spans}
+use Rattle.go_core.specs.Leaves.{Leaf, leaf, leaf_of, or_filler, times, leaves_with, leaves_under, name_leaves, leaves_of, Spans}
 use Rattle.go_type.specs.Named.{NamedTy}
 use Rattle.go_type.specs.Underlying.{under_at}
-use Rattle.go_core.specs.Typed.{World, whole_typed, Lists, IsOf, EntriesOf, MemoryTyped}
+use Rattle.go_core.specs.Typed.{World, whole_typed, Lists, IsOf, EntriesOf, MemoryTyped, untagged_map}
 use Rattle.go_core.specs.TasksTyped.{CursorTyped}
 use Rattle.go_core.proofs.LeavesLemmas.{size_leaves, under_leaves, unfilled as unfilled_spans, spans_fewer, spans_element}
 use Rattle.go_core.proofs.MemoryLemmas.{reads, map_found}
@@ -129,12 +129,12 @@ module _ (p : CoreProgram) (w : World) (m : Memory) (mt : MemoryTyped p w m) (g 
       by_sign (negsuc n) = tt
   begins set (ty.array n u) x i h = by_array n u x h
   begins set (ty.slice u) x i h =
-      one_scalar p w (leaf (ty.slice u)) x (λ y. Begun p w (ty.slice u) (k.is_nil_array p g (ty.slice u) y) (k.cursor_of p g (ty.slice u) y m)) h
+      one_scalar p w (leaf_of (ty.slice u)) x (λ y. Begun p w (ty.slice u) (k.is_nil_array p g (ty.slice u) y) (k.cursor_of p g (ty.slice u) y m)) h
       (λ y c. slice_in p w u y (λ z. Begun p w (ty.slice u) (k.is_nil_array p g (ty.slice u) (z ∷ [])) (k.cursor_of p g (ty.slice u) (z ∷ []) m)) c refl
       (λ base len capacity le l. spans_fewer w.cells (leaves_of p.names u) base capacity len le l))
   begins set (ty.pointer t) x i h =
       let a = an_array (underlying p.names t) i in
-      one_scalar p w (leaf (ty.pointer t)) x (λ y. Begun p w (ty.pointer t) (k.is_nil_array p g (ty.pointer t) y) (k.cursor_of p g (ty.pointer t) y m)) h
+      one_scalar p w (leaf_of (ty.pointer t)) x (λ y. Begun p w (ty.pointer t) (k.is_nil_array p g (ty.pointer t) y) (k.cursor_of p g (ty.pointer t) y m)) h
       (λ y c. pointer_in p w t y (λ z. Begun p w (ty.pointer t) (k.is_nil_array p g (ty.pointer t) (z ∷ [])) (k.cursor_of p g (ty.pointer t) (z ∷ []) m)) c (no_array t a.0 a.1 a.2)
       (λ base l. array_at t a.0 a.1 base a.2
       (unfilled_spans w.cells base (times a.0 (leaves_of p.names a.1)) (subst (Spans w.cells base) (under_leaves p set t ∙ ap (leaves_of p.names) a.2) l))))
@@ -142,7 +142,7 @@ module _ (p : CoreProgram) (w : World) (m : Memory) (mt : MemoryTyped p w m) (g 
       one_scalar p w (leaf ty.str) x (λ y. Begun p w ty.str (k.is_nil_array p g ty.str y) (k.cursor_of p g ty.str y m)) h
       (λ y c. text_in p w y (λ z. Begun p w ty.str (k.is_nil_array p g ty.str (z ∷ [])) (k.cursor_of p g ty.str (z ∷ []) m)) c (λ bytes. tt))
   begins set (ty.mapping a b) x i h =
-      one_scalar p w (leaf (ty.mapping a b)) x (λ y. Begun p w (ty.mapping a b) (k.is_nil_array p g (ty.mapping a b) y) (k.cursor_of p g (ty.mapping a b) y m)) h
+      one_scalar p w (leaf_of (ty.mapping a b)) x (λ y. Begun p w (ty.mapping a b) (k.is_nil_array p g (ty.mapping a b) y) (k.cursor_of p g (ty.mapping a b) y m)) h
       (λ y c. map_in p w a b y (λ z. Begun p w (ty.mapping a b) (k.is_nil_array p g (ty.mapping a b) (z ∷ [])) (k.cursor_of p g (ty.mapping a b) (z ∷ []) m)) c tt
       (λ name at. let f = map_found p w w.maps m.maps name (record { key = a; value = b }) mt.maps_typed at in
       subst (λ o. Begun p w (ty.mapping a b) false (k.births_of p g name o)) (sym f.is_at) at))
@@ -179,7 +179,7 @@ module _ (p : CoreProgram) (w : World) (m : Memory) (mt : MemoryTyped p w m) (g 
   born_typed a b birth produced (e ∷ es) h =
       this_or a b ((e.birth == birth) && not (k.is_in p g birth produced)) e (k.entry_born p g birth produced es) h.0 (born_typed a b birth produced es h.1)
 
-  entry_typed : (a b : Ty) (name birth : ℕ) (produced : List ℕ) (since : ℕ) (o : Option Entry) → slice_get w.maps name ≡ Some (record { key = a; value = b }) → EntryTyped a b o
+  entry_typed : (a b : Ty) (name birth : ℕ) (produced : List ℕ) (since : ℕ) (o : Option Entry) → slice_get w.maps name ≡ Some (untagged_map (record { key = a; value = b })) → EntryTyped a b o
       → NextTyped p w g (ty.mapping a b) (k.entry_next p g (Some name) birth produced since o)
   entry_typed a b name birth produced since None at h = tt
   entry_typed a b name birth produced since (Some e) at h = ((λ t q. subst (λ v. IsOf p w v e.key) (sym q) h.0), (λ t q. subst (λ v. IsOf p w v e.value) (sym q) h.1), at)

@@ -20,8 +20,8 @@ use Rattle.go_core.specs.StepMemory as s
 use Rattle.go_core.specs.StepMaps as d
 use Rattle.go_core.specs.Goroutine.{Place}
 use Rattle.go_core.specs.Assign as a
-use Rattle.go_core.specs.Leaves.{leaf, leaves_of, times, Spans}
-use Rattle.go_core.specs.Typed.{World, IsOf, MemoryTyped}
+use Rattle.go_core.specs.Leaves.{leaf_of, leaves_of, times, Spans}
+use Rattle.go_core.specs.Typed.{World, IsOf, MemoryTyped, untagged_map}
 use Rattle.go_core.specs.Applies.{Slot, a_value, AreIn}
 use Rattle.go_core.specs.TasksTyped.{HasVar, PlaceTyped, local_place, global_place, deref_place, field_place, elem_place, slice_place, TargetTyped, blank_target, place_target, entry_target, TargetsTyped, no_target, more_targets}
 use Rattle.go_core.specs.WellFormed.{ids_of, PlacesTyped, GlobalsLie}
@@ -54,7 +54,7 @@ module _ (p : CoreProgram) (w : World) where
 module _ (p : CoreProgram) (w : World) (set : AreSet p) (m : Memory) (qs : List Place) where
   deref : (q t : Ty) (us : List Slot) (x : Value) (others : List Value) → underlying p.names q ≡ ty.pointer t → IsOf p w q x → AreIn p w us others → F p w t us others (s.deref_step x m)
   deref q t us x others e h k =
-      one_scalar p w (leaf (ty.pointer t)) x (λ y. F p w t us others (s.deref_step y m)) (down p w set q (ty.pointer t) x e h)
+      one_scalar p w (leaf_of (ty.pointer t)) x (λ y. F p w t us others (s.deref_step y m)) (down p w set q (ty.pointer t) x e h)
       (λ y g. pointer_in p w t y (λ z. F p w t us others (s.deref_step (z ∷ []) m)) g tt (λ base l. (l, k)))
 
   field : (t : Ty) (n : ℕ) (f : FieldTy) (us : List Slot) (o : a.Found) → field_in (underlying p.names t) n ≡ Some f → FoundTyped p w t us o → FoundTyped p w f.type_ us (a.in_field p qs m t n o)
@@ -89,7 +89,7 @@ module _ (p : CoreProgram) (w : World) (set : AreSet p) (m : Memory) (qs : List 
   slice_elem t i u us x y others e j h g k =
       subst (λ v. F p w u us others (s.slice_elem_step p.names v x y m)) (sym e)
       (on_int p w set i y (F p w u us others) _ j g
-      (λ index. one_scalar p w (leaf (ty.slice u)) x (λ z. F p w u us others (s.slice_elem_at (size (shape_of p.names u)) z index m)) (down p w set t (ty.slice u) x e h)
+      (λ index. one_scalar p w (leaf_of (ty.slice u)) x (λ z. F p w u us others (s.slice_elem_at (size (shape_of p.names u)) z index m)) (down p w set t (ty.slice u) x e h)
       (λ z l. slice_in p w u z (λ v. F p w u us others (s.slice_elem_at (size (shape_of p.names u)) (v ∷ []) index m)) l
       (indexed (F p w u us others) index 0 _ (λ q. tt) (λ at lt. absurd (omega arith)))
       (λ base len capacity le q. indexed (F p w u us others) index len _ (λ r. tt)
@@ -144,14 +144,14 @@ module _ (p : CoreProgram) (g : ℕ) (had : List ℕ) where
 -- ---- entries of maps
 
 module _ (p : CoreProgram) (w : World) (set : AreSet p) (m : Memory) (mt : MemoryTyped p w m) (k v : Ty) where
-  set_or_not : (name units : ℕ) (o : Option MapState) → slice_get w.maps name ≡ Some (record { key = k; value = v }) → StateTyped p w k v o → SetTyped p w (d.set_or_not m name units o)
+  set_or_not : (name units : ℕ) (o : Option MapState) → slice_get w.maps name ≡ Some (untagged_map (record { key = k; value = v })) → StateTyped p w k v o → SetTyped p w (d.set_or_not m name units o)
   set_or_not name units None e h = tt
   set_or_not name units (Some st) e h = sets_map p w m name (record { key = k; value = v }) st mt e h
 
   pub entry_set : (t : Ty) (x key value : Value) → underlying p.names t ≡ ty.mapping k v → IsOf p w t x → IsOf p w k key → IsOf p w v value → SetTyped p w (d.map_set_step p.names (underlying p.names t) x key value m)
   entry_set t x key value e h a b =
       subst (λ u. SetTyped p w (d.map_set_step p.names u x key value m)) (sym e)
-      (one_scalar p w (leaf (ty.mapping k v)) x (λ y. SetTyped p w (d.map_set_step p.names (ty.mapping k v) y key value m)) (down p w set t (ty.mapping k v) x e h)
+      (one_scalar p w (leaf_of (ty.mapping k v)) x (λ y. SetTyped p w (d.map_set_step p.names (ty.mapping k v) y key value m)) (down p w set t (ty.mapping k v) x e h)
       (λ y g. map_in p w k v y (λ z. SetTyped p w (d.map_set_step p.names (ty.mapping k v) (z ∷ []) key value m)) g tt
       (λ name at. let f = map_found p w w.maps m.maps name (record { key = k; value = v }) mt.maps_typed at in
       subst (λ o. SetTyped p w (d.entry_set p.names k v key value name o m)) (sym f.is_at)

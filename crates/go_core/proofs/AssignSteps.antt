@@ -24,7 +24,7 @@ use Rattle.go_core.specs.Assign as a
 use Rattle.go_core.specs.Control as k
 use Rattle.go_core.specs.Control.{left, continued}
 use Rattle.go_core.specs.GoStep as go
-use Rattle.go_core.specs.Leaves.{leaf, leaves_of}
+use Rattle.go_core.specs.Leaves.{leaf_of, leaves_of}
 use Rattle.go_core.specs.Typed.{World, IsOf, MemoryTyped}
 use Rattle.go_core.specs.TasksTyped.{HasVar, CursorTyped, HasIfThere, RangeTyped, TargetTyped, TargetsTyped, blank_target, place_target, entry_target, no_target, more_targets, TasksTyped, LabelsTyped, labels_typed, drop_typed, push_typed, leave_typed, assign_typed, assign_rest_typed, begin_range_typed, next_range_typed, through_typed}
 use Rattle.go_core.specs.Applies.{Slot, a_value, values_of_types, pushed_slots, AreIn}
@@ -145,7 +145,7 @@ module _ (p : CoreProgram) (sound : Sound p) (choices : List ℕ) (move : Move) 
       → KeepsWell p (c.receive_through_step p g v (with_ ts vs) below s)
   receiver had e st v ts vs hv h t =
       local.operand p sound choices move g s wf f0 slots0 below ft bt (a_value (ty.pointer v.type_)) st ts vs (c.read_through p g v below s) h
-      (λ x others i j. one_scalar p w (leaf (ty.pointer v.type_)) x (λ y. KeepsWell p (c.read_through p g v below s y (with_ ts others))) i
+      (λ x others i j. one_scalar p w (leaf_of (ty.pointer v.type_)) x (λ y. KeepsWell p (c.read_through p g v below s y (with_ ts others))) i
       (λ y l. pointer_in p w v.type_ y (λ z. KeepsWell p (c.read_through p g v below s (z ∷ []) (with_ ts others))) l (panicked nil_used ts others 0)
       (λ base lies. let b = base_found p w f0.places v.id v.type_ ft.places_typed (subst (λ is. HasVar p is v.id v.type_) (sym e) hv) in
       let n = size (shape_of p.names v.type_) in

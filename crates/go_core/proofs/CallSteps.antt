@@ -11,6 +11,7 @@ use Rattle.go_core.specs.Memory.{Scalar, Scalars, Value, Memory, listed, read_ce
 use Rattle.go_core.specs.CoreTree.{Var, MethodName, MethodRow, CoreProgram}
 use Rattle.go_core.specs.TypeOf.{listed_types}
 use Rattle.go_core.specs.SoundNode.{types_of_vars}
+use Rattle.go_core.specs.Untagged.{AreAlike}
 use Rattle.go_core.specs.Sound.{empty_interface}
 use Rattle.go_core.specs.SoundProgram.{Sound}
 use Rattle.go_core.specs.RunPanic.{nil_used, panic_value}
@@ -25,10 +26,11 @@ use Rattle.go_core.specs.Leaves.{leaf, leaves_of}
 use Rattle.go_core.specs.Typed.{World, Takes, ScalarTyped, nil_typed, ScalarsTyped, MemoryTyped, Extends}
 use Rattle.go_core.specs.TasksTyped.{HasVars, CallTyped, TasksTyped, no_task, drop_typed, push_typed, leave_typed, call_typed, go_typed, defer_typed, recover_typed, finish_typed}
 use Rattle.go_core.specs.Applies.{Slot, a_value, values_of_types, pushed_slots, AreIn}
-use Rattle.go_core.specs.WellFormed.{ids_of, gives_below, PlacesTyped, InvocationTyped, InvocationsTyped, ModeTyped, PurposeFits, FrameTyped, FramesTyped, GoroutineTyped, GoroutinesTyped, WellFormed}
+use Rattle.go_core.specs.WellFormed.{ids_of, gives_below, PlacesTyped, InvocationTyped, InvocationsTyped, ModeTyped, PurposeFits, FrameTyped, Remains, FramesTyped, GoroutineTyped, GoroutinesTyped, WellFormed}
 use Rattle.go_core.specs.LocalSteps.{KeepsWell}
 use Rattle.go_core.specs.CallSteps.{StartsCall, CallStepsKeep}
 use Rattle.go_core.proofs.TypedGrowth.{are_in_grow}
+use Rattle.go_core.proofs.UntaggedLemmas.{none_alike, are_alike}
 use Rattle.go_core.proofs.LeavesLemmas.{size_leaves}
 use Rattle.go_core.proofs.MemoryLemmas.{same_world, to_lists, reads}
 use Rattle.go_core.proofs.SameTypeLemmas.{row_found}
@@ -75,7 +77,17 @@ module _ (p : CoreProgram) (sound : Sound p) (choices : List ℕ) (move : Move) 
   -- frames that are given nothing go on
   goes_on : (v : World) (fs : List Frame) → FramesTyped p v [] fs → GoroutineTyped p v able fs
   goes_on v [] h = refl
-  goes_on v (f ∷ below) h = h
+  goes_on v (f ∷ below) h = ((h.0.0, h.0.1, subst (λ ts. Remains p v f (pushed_slots (values_of_types ts) h.0.0) f.tasks) (none_alike h.0.2.0 h.0.2.1) h.0.2.2), h.1)
+
+  -- and so they do where what they are given differs in tags alone
+  below_alike : (u : Purpose) (rs given : List Ty) → AreAlike rs given → AreAlike (gives_below u rs) (gives_below u given)
+  below_alike called rs given e = e
+  below_alike deferred rs given e = refl
+  below_alike reporting rs given e = refl
+
+  frames_alike : (v : World) (rs given : List Ty) (fs : List Frame) → AreAlike rs given → FramesTyped p v given fs → FramesTyped p v rs fs
+  frames_alike v rs given [] e h = tt
+  frames_alike v rs given (f ∷ below) e h = ((h.0.0, h.0.1, (h.0.2.0, e ∙ h.0.2.1, h.0.2.2)), h.1)
 
   -- a new frame above others
   above : (given : List Ty) (purpose : Purpose) (o : Option Entered) (e : Entry p w given purpose o) (fs : List Frame) → PurposeFits p e.world purpose given fs → FramesTyped p w (gives_below purpose given) fs → (units : ℕ)
@@ -84,7 +96,8 @@ module _ (p : CoreProgram) (sound : Sound p) (choices : List ℕ) (move : Move) 
       frames_keep e.world e.extends e.entry.memory e.memory_typed (e.entry.frame ∷ fs) (
         ([], e.frame_typed fs fits, e.remains),
         subst (λ u. FramesTyped p e.world (gives_below u (types_of_vars e.entry.frame.results)) fs) (sym e.with_purpose)
-            (subst (λ rs. FramesTyped p e.world (gives_below purpose rs) fs) (sym e.gives) (frames p w e.world e.extends (gives_below purpose given) fs h)),
+            (frames_alike e.world (gives_below purpose (types_of_vars e.entry.frame.results)) (gives_below purpose given) fs (below_alike purpose (types_of_vars e.entry.frame.results) given e.gives)
+            (frames p w e.world e.extends (gives_below purpose given) fs h)),
       ) units
 
   -- a frame that panics
@@ -122,16 +135,16 @@ module _ (p : CoreProgram) (sound : Sound p) (choices : List ℕ) (move : Move) 
       let ft = bt.0.1 in
       same_keep (with_more vs f ∷ fs) (
         (
-          pushed_slots (values_of_types rs) bt.0.0,
+          pushed_slots (values_of_types bt.0.2.0) bt.0.0,
           record {
-            values_typed = pushes_on p w (values_of_types rs) bt.0.0 vs f.values h ft.values_typed;
+            values_typed = pushes_on p w (values_of_types bt.0.2.0) bt.0.0 vs f.values (are_alike p w rs bt.0.2.0 vs bt.0.2.1 h) ft.values_typed;
             places_typed = ft.places_typed;
             results_had = ft.results_had;
             deferred_typed = ft.deferred_typed;
             mode_typed = ft.mode_typed;
             purpose_fits = ft.purpose_fits;
           },
-          bt.0.2,
+          bt.0.2.2,
         ),
         bt.1,
       ) 1
@@ -198,7 +211,7 @@ module _ (p : CoreProgram) (sound : Sound p) (choices : List ℕ) (move : Move) 
 
     waits : (given : List Ty) (st : List Slot) (ts : List Task) (vs : List Value) → AreIn p w st vs → T (pushed_slots (values_of_types given) st) ts → FramesTyped p w given (with_ ts vs ∷ below)
     waits given st ts vs h t =
-        ((st, record { values_typed = h; places_typed = ft.places_typed; results_had = ft.results_had; deferred_typed = ft.deferred_typed; mode_typed = ft.mode_typed; purpose_fits = ft.purpose_fits }, t), bt)
+        ((st, record { values_typed = h; places_typed = ft.places_typed; results_had = ft.results_had; deferred_typed = ft.deferred_typed; mode_typed = ft.mode_typed; purpose_fits = ft.purpose_fits }, (given, refl, t)), bt)
 
     calls : (given : List Ty) (st : List Slot) (ts : List Task) (vs : List Value) → AreIn p w st vs → T (pushed_slots (values_of_types given) st) ts → (r : Resolved) → ResolvedTyped p w given r
         → KeepsWell p (call.called_step p g r (with_ ts vs) below s)
@@ -261,7 +274,7 @@ module _ (p : CoreProgram) (sound : Sound p) (choices : List ℕ) (move : Move) 
     one_runs (invoke func bases row os) is k ks =
         let e = enter p sound w func bases row k.0 k.1 os deferred s.memory wf.memory_typed k.2 k.3 in
         subst (λ o. KeepsWell p (end.deferred_above p g o (ending is) below s)) (sym e.is_entry)
-        (above k.1 deferred _ e (ending is ∷ below) tt (([], ending_typed is ks, no_task (ids_of f0.places) []), bt) 1)
+        (above k.1 deferred _ e (ending is ∷ below) tt (([], ending_typed is ks, ([], refl, no_task (ids_of f0.places) [])), bt) 1)
     one_runs nothing_to_invoke is k ks = same_keep (to_panicking (panic_value p.hidden nil_used) (ending is) ∷ below) (panics_in (panic_value p.hidden nil_used) panic_is [] (ending is) below (ending_typed is ks) bt) 1
 
     gives_results : KeepsWell p (end.ended_with p g f0.purpose (call.results_of p g f0.results f0.places s.memory) below s)

@@ -6,7 +6,7 @@ use Rattle.go_type.specs.Tree.{Ty, no_specs}
 use Rattle.go_core.specs.Memory as cell
 use Rattle.go_core.specs.Memory.{Scalar, Value, Memory, Channel, set_channel}
 use Rattle.go_core.specs.CoreTree.{CoreProgram}
-use Rattle.go_core.specs.SoundNode.{types_of_vars, Answers}
+use Rattle.go_core.specs.SoundNode.{types_of_vars}
 use Rattle.go_core.specs.Sound.{empty_interface}
 use Rattle.go_core.specs.SoundProgram.{Sound}
 use Rattle.go_core.specs.RunPanic.{RunPanic, panic_value, text_of}
@@ -14,12 +14,14 @@ use Rattle.go_core.specs.Goroutine.{Task, Frame, Offer, Waiting, able, at_channe
 use Rattle.go_core.specs.Frames.{to_panicking}
 use Rattle.go_core.specs.Communicate.{offers_of, received, done_with, frames_of, resumed_at, resumed}
 use Rattle.go_core.specs.Leaves.{leaf, leaves_of}
-use Rattle.go_core.specs.Typed.{World, ScalarTyped, ScalarsTyped, truth_typed, text_typed, interface_typed, none_typed, more_typed, IsOf, AllOf, ChannelsTyped, MemoryTyped}
+use Rattle.go_core.specs.Untagged.{untagged}
+use Rattle.go_core.specs.Typed.{World, AnswersLike, ScalarTyped, ScalarsTyped, truth_typed, text_typed, interface_typed, none_typed, more_typed, IsOf, AllOf, ChannelsTyped, MemoryTyped}
 use Rattle.go_core.specs.TasksTyped.{no_task}
 use Rattle.go_core.specs.Applies.{Slot, values_of_types, pushed_slots, AreIn}
 use Rattle.go_core.specs.WellFormed.{ids_of, gives_below, GlobalsLie, FrameTyped, Remains, FramesTyped, received_types, OfferTyped, OffersTyped, GoroutineTyped, GoroutinesTyped, WellFormed}
 use Rattle.go_core.specs.LocalSteps.{KeepsWell}
 use Rattle.go_core.specs.CommunicationSteps.{IsThere, KeepsIfThere, Goes, GoesWell}
+use Rattle.go_core.proofs.UntaggedLemmas.{twice, all_alike}
 use Rattle.go_core.proofs.LeavesLemmas.{under_leaves}
 use Rattle.go_core.proofs.LocalFrames.{pushes_on}
 use Rattle.go_core.proofs.FramesGrow.{goroutine_set}
@@ -80,11 +82,14 @@ module _ (p : CoreProgram) (w : World) where
     pub is_at : slice_get cs i ≡ Some at
     pub typed : AllOf p w t at.values
 
-  pub channel_found : (ts : List Ty) (cs : List Channel) (i : ℕ) (t : Ty) → ChannelsTyped p w ts cs → slice_get ts i ≡ Some t → ChannelFound t cs i
-  channel_found [] cs i t h e = absurd (cc)
-  channel_found (u ∷ ts) [] i t h e = absurd h
-  channel_found (u ∷ ts) (c ∷ cs) zero t h e = record { at = c; is_at = refl; typed = subst (λ v. AllOf p w v c.values) (some_type u t e) h.0 }
-  channel_found (u ∷ ts) (c ∷ cs) (suc i) t h e = let f = channel_found ts cs i t h.1 e in record { at = f.at; is_at = f.is_at; typed = f.typed }
+  found_at : (ts : List Ty) (cs : List Channel) (i : ℕ) (t : Ty) → ChannelsTyped p w ts cs → slice_get ts i ≡ Some t → ChannelFound t cs i
+  found_at [] cs i t h e = absurd (cc)
+  found_at (u ∷ ts) [] i t h e = absurd h
+  found_at (u ∷ ts) (c ∷ cs) zero t h e = record { at = c; is_at = refl; typed = subst (λ v. AllOf p w v c.values) (some_type u t e) h.0 }
+  found_at (u ∷ ts) (c ∷ cs) (suc i) t h e = let f = found_at ts cs i t h.1 e in record { at = f.at; is_at = f.is_at; typed = f.typed }
+
+  pub channel_found : (ts : List Ty) (cs : List Channel) (i : ℕ) (t : Ty) → ChannelsTyped p w ts cs → slice_get ts i ≡ Some (untagged t) → ChannelFound t cs i
+  channel_found ts cs i t h e = let f = found_at ts cs i (untagged t) h e in record { at = f.at; is_at = f.is_at; typed = all_alike p w (untagged t) t f.at.values (twice t) f.typed }
 
   channel_set_at : (ts : List Ty) (cs : List Channel) (i : ℕ) (t : Ty) (c : Channel) → ChannelsTyped p w ts cs → slice_get ts i ≡ Some t → AllOf p w t c.values → ChannelsTyped p w ts (slice_set cs i c)
   channel_set_at [] cs i t c h e k = absurd (cc)
@@ -92,8 +97,8 @@ module _ (p : CoreProgram) (w : World) where
   channel_set_at (u ∷ ts) (d ∷ cs) zero t c h e k = (subst (λ v. AllOf p w v c.values) (sym (some_type u t e)) k, h.1)
   channel_set_at (u ∷ ts) (d ∷ cs) (suc i) t c h e k = (h.0, channel_set_at ts cs i t c h.1 e k)
 
-  pub sets_channel : (m : Memory) (i : ℕ) (t : Ty) (c : Channel) → MemoryTyped p w m → slice_get w.channels i ≡ Some t → AllOf p w t c.values → MemoryTyped p w (set_channel m i c)
-  sets_channel m i t c h e k = record { cells_typed = h.cells_typed; maps_typed = h.maps_typed; channels_typed = channel_set_at w.channels m.channels i t c h.channels_typed e k }
+  pub sets_channel : (m : Memory) (i : ℕ) (t : Ty) (c : Channel) → MemoryTyped p w m → slice_get w.channels i ≡ Some (untagged t) → AllOf p w t c.values → MemoryTyped p w (set_channel m i c)
+  sets_channel m i t c h e k = record { cells_typed = h.cells_typed; maps_typed = h.maps_typed; channels_typed = channel_set_at w.channels m.channels i (untagged t) c h.channels_typed e (all_alike p w t (untagged t) c.values (sym (twice t)) k) }
 
   pub all_append : (t : Ty) (xs : List Value) (x : Value) → AllOf p w t xs → IsOf p w t x → AllOf p w t (xs ++ x ∷ [])
   all_append t [] x h k = (k, tt)
@@ -155,7 +160,7 @@ module _ (p : CoreProgram) (sound : Sound p) (w : World) (gl : GlobalsLie p w) w
     bt,
   )
 
-  none_asked : (t : Ty) → Answers p t no_specs
+  none_asked : (t : Ty) → AnswersLike p t no_specs
   none_asked t name package_ q e = absurd (cc)
 
   panic_typed : (q : RunPanic) → ScalarTyped p w (leaf empty_interface) (panic_value p.hidden q)

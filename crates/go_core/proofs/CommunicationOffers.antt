@@ -3,6 +3,7 @@ use Rattle.std.proofs.Common.{◌⊎◌, inl, inr, refl, sym, ap, ◌∙◌, sub
 use Rattle.std.specs.Prelude.{◌≡◌, ℕ, suc, ◌+◌, ◌==◌, List, [], ◌∷◌, ◌++◌, Bool, true, false, ◌||◌, ◌&&◌, not, if◌then◌else◌, nat_lt, Option, Some, None, slice_get, length, option_and_then}
 use Rattle.std.proofs.lemmas.Bool.{eqb-true, eqb-false}
 use Rattle.go_type.specs.Tree.{Ty}
+use Rattle.go_core.specs.Untagged.{untagged, IsAlike}
 use Rattle.go_core.specs.Memory.{Value, Memory, Channel, set_channel}
 use Rattle.go_core.specs.CoreTree.{CoreProgram}
 use Rattle.go_core.specs.SoundNode.{types_of_vars}
@@ -17,6 +18,7 @@ use Rattle.go_core.specs.Applies.{Slot, values_of_types, pushed_slots, AreIn}
 use Rattle.go_core.specs.WellFormed.{gives_below, GlobalsLie, FrameTyped, Remains, FramesTyped, received_types, OfferTyped, GoroutinesTyped, WellFormed}
 use Rattle.go_core.specs.LocalSteps.{KeepsWell}
 use Rattle.go_core.specs.CommunicationSteps.{IsThere, KeepsIfThere}
+use Rattle.go_core.proofs.UntaggedLemmas.{is_alike}
 use Rattle.go_core.proofs.FramesGrow.{goroutine_at, goroutine_set}
 use Rattle.go_core.proofs.CommunicationFrames.{or_either, and_both, if_state, get_other, some_type, if_there, there, move_by, channel_found, sets_channel, all_append, received_typed, WaitsAt, waits_at, well, done_typed, panicked_typed, resumes}
 
@@ -130,7 +132,7 @@ module _ (p : CoreProgram) (sound : Sound p) (w : World) (gl : GlobalsLie p w) (
 
   -- ---- sends
 
-  module _ (name u : ℕ) (x : Value) (after : List Task) (t : Ty) (of_type : slice_get w.channels name ≡ Some t) (xt : IsOf p w t x) (rest : Remains p w fr slots (after ++ fr.tasks)) where
+  module _ (name u : ℕ) (x : Value) (after : List Task) (t : Ty) (of_type : slice_get w.channels name ≡ Some (untagged t)) (xt : IsOf p w t x) (rest : Remains p w fr slots (after ++ fr.tasks)) where
     abbrev sent_alone : State
     sent_alone = moved g (done_with [] after fr ∷ below) (1 + u) s
 
@@ -140,11 +142,11 @@ module _ (p : CoreProgram) (sound : Sound p) (w : World) (gl : GlobalsLie p w) (
     to_well move (receiving (Some m) z v n after') e a =
         let o = receiving (Some m) z v n after' in
         let b = waits_there move o a in
-        let same : t ≡ b.offer_typed.0 = some_type t b.offer_typed.0 (sym of_type ∙ ap (slice_get w.channels) (sym (eqb-true m name e)) ∙ b.offer_typed.1) in
+        let same : IsAlike t b.offer_typed.0 = some_type (untagged t) (untagged b.offer_typed.0) (sym of_type ∙ ap (slice_get w.channels) (sym (eqb-true m name e)) ∙ b.offer_typed.1) in
         subst (λ q. KeepsWell p (if q then resumed (received n x true) after' move.partner sent_alone else None)) (sym e)
         (resumes p sound w gl sent_alone mt (done_goroutines [] [] after tt rest (1 + u)) move.partner a.goroutine
         (get_other s.goroutines g move.partner (record { frames = done_with [] after fr ∷ below; waiting = able }) (Some a.goroutine) a.is_other a.is_at) o b
-        (received_types p w n b.offer_typed.0) (received n x true) after' (received_typed p w n b.offer_typed.0 x true (subst (λ y. IsOf p w y x) same xt)) b.offer_typed.3)
+        (received_types p w n b.offer_typed.0) (received n x true) after' (received_typed p w n b.offer_typed.0 x true (is_alike p w t b.offer_typed.0 x same xt)) b.offer_typed.3)
 
     to_keeps : (move : Move) (q : Option Offer) → partner_offer g move s ≡ q → KeepsIfThere p (talk.to_partner p g move name x q sent_alone)
     to_keeps move None e = tt
@@ -217,7 +219,7 @@ module _ (p : CoreProgram) (sound : Sound p) (w : World) (gl : GlobalsLie p w) (
 
   -- ---- receives
 
-  module _ (name u n : ℕ) (zero_ : Value) (after : List Task) (t : Ty) (of_type : slice_get w.channels name ≡ Some t) (zt : IsOf p w t zero_)
+  module _ (name u n : ℕ) (zero_ : Value) (after : List Task) (t : Ty) (of_type : slice_get w.channels name ≡ Some (untagged t)) (zt : IsOf p w t zero_)
       (rest : Remains p w fr (pushed_slots (values_of_types (received_types p w n t)) slots) (after ++ fr.tasks)) where
     abbrev received_alone : Value → Bool → State
     received_alone x ok = moved g (done_with (received n x ok) after fr ∷ below) (1 + u) s
@@ -228,8 +230,8 @@ module _ (p : CoreProgram) (sound : Sound p) (w : World) (gl : GlobalsLie p w) (
     from_well move (sending (Some m) x v after') e a =
         let o = sending (Some m) x v after' in
         let b = waits_there move o a in
-        let same : b.offer_typed.0 ≡ t = some_type b.offer_typed.0 t (sym b.offer_typed.1 ∙ ap (slice_get w.channels) (eqb-true m name e) ∙ of_type) in
-        let xt = subst (λ y. IsOf p w y x) same b.offer_typed.2 in
+        let same : IsAlike b.offer_typed.0 t = some_type (untagged b.offer_typed.0) (untagged t) (sym b.offer_typed.1 ∙ ap (slice_get w.channels) (eqb-true m name e) ∙ of_type) in
+        let xt = is_alike p w b.offer_typed.0 t x same b.offer_typed.2 in
         subst (λ q. KeepsWell p (if q then resumed [] after' move.partner (received_alone x true) else None)) (sym e)
         (resumes p sound w gl (received_alone x true) mt (done_goroutines (received_types p w n t) (received n x true) after (received_typed p w n t x true xt) rest (1 + u)) move.partner a.goroutine
         (get_other s.goroutines g move.partner (record { frames = done_with (received n x true) after fr ∷ below; waiting = able }) (Some a.goroutine) a.is_other a.is_at) o b

@@ -4,6 +4,7 @@ use Rattle.std.specs.Prelude.{◌≡◌, ℕ, suc, List, [], ◌∷◌, ◌++◌
 use Rattle.go_type.specs.Tree as ty
 use Rattle.go_type.specs.Tree.{Ty}
 use Rattle.go_type.specs.Underlying.{underlying}
+use Rattle.go_core.specs.Untagged.{untagged}
 use Rattle.go_core.specs.Layout.{shape_of, weight}
 use Rattle.go_core.specs.Memory.{Value, zeros}
 use Rattle.go_core.specs.CoreTree.{Var, Stmts, CoreProgram}
@@ -15,7 +16,7 @@ use Rattle.go_core.specs.Goroutine as task
 use Rattle.go_core.specs.Goroutine.{Task, Case, Frame, Offer, sending, receiving, Move}
 use Rattle.go_core.specs.Communicate as talk
 use Rattle.go_core.specs.Communicate.{named_channel}
-use Rattle.go_core.specs.Leaves.{leaf, leaves_of}
+use Rattle.go_core.specs.Leaves.{leaf_of, leaves_of}
 use Rattle.go_core.specs.Typed.{World, IsOf, Lists}
 use Rattle.go_core.specs.TasksTyped.{clause_first, TasksTyped, CasesTyped, no_case, send_case, receive_case}
 use Rattle.go_core.specs.Applies.{Slot, values_of_types, pushed_slots, AreIn}
@@ -48,9 +49,9 @@ module _ (p : CoreProgram) (w : World) where
 
   named_by : (v u : Ty) (c : Value) → IsChannelOf v u → Lists p w (leaves_of p.names v) c → Named c u
   named_by (ty.chan d t) u c i h =
-      one_scalar p w (leaf (ty.chan d t)) c (λ y. Named y u) h
+      one_scalar p w (leaf_of (ty.chan d t)) c (λ y. Named y u) h
       (λ y a. channel_in p w d t y (λ z. Named (z ∷ []) u) a (record { name = None; is_named = refl; fits = tt })
-      (λ name e. record { name = Some name; is_named = refl; fits = subst (λ v. slice_get w.channels name ≡ Some v) i e }))
+      (λ name e. record { name = Some name; is_named = refl; fits = subst (λ v. slice_get w.channels name ≡ Some (untagged v)) i e }))
   named_by _ u c i h = absurd i
 
   pub named : Sound p → (t u : Ty) (c : Value) → IsChannelOf (underlying p.names t) u → IsOf p w t c → Named c u

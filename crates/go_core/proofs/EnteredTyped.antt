@@ -6,6 +6,7 @@ use Rattle.go_type.specs.Tree as ty
 use Rattle.go_type.specs.Tree.{Ty, Tys, Fields, Specs, no_tys, more_tys, no_fields, more_fields, no_specs, more_specs}
 use Rattle.go_core.specs.Layout.{shape_of}
 use Rattle.go_core.specs.SameType.{same_type}
+use Rattle.go_core.specs.Untagged.{untagged_list, AreAlike}
 use Rattle.go_core.specs.Memory as cell
 use Rattle.go_core.specs.Memory.{Value, Memory, zeros, next_base, with_fresh}
 use Rattle.go_core.specs.CoreTree.{Var, CoreFunc, MethodRow, CoreProgram}
@@ -13,18 +14,20 @@ use Rattle.go_core.specs.TypeOf.{listed_types}
 use Rattle.go_core.specs.SoundNode.{Around, types_of_vars, IsRowOf}
 use Rattle.go_core.specs.SoundProgram.{Sound, SoundFunc, captured_vars}
 use Rattle.go_core.specs.Opened.{all_opened, type_count}
-use Rattle.go_core.specs.Goroutine.{Task, push_value, receive_through, Purpose, Frame}
+use Rattle.go_core.specs.Goroutine.{Task, push_value, receive_through, Purpose, called, deferred, reporting, Frame}
 use Rattle.go_core.specs.Calls.{Bindings, with_vars, with_zeros, captured_places, as_it_is, through, to_a_copy, receiver_of, Adapted, adapted, Entered, result_vars, frame_of, with_results, entered_with, entered_at, entered}
 use Rattle.go_core.specs.Leaves.{leaves_of}
-use Rattle.go_core.specs.Typed.{World, AreAt, Takes, OperandsFit, pointer_typed, IsOf, MemoryTyped, Extends}
+use Rattle.go_core.specs.Typed.{World, AreAt, Takes, OperandsFit, IsOf, MemoryTyped, Extends}
 use Rattle.go_core.specs.TasksTyped.{with_ids, AreVars, HasVar, HasVars, labels_typed, TasksTyped, no_task, push_typed, through_typed}
 use Rattle.go_core.specs.Applies.{values_of_types, AreIn}
 use Rattle.go_core.specs.WellFormed.{ids_of, PurposeFits, FrameTyped, Remains}
 use Rattle.go_core.proofs.TypedGrowth.{lists_grow, are_in_grow, are_at}
 use Rattle.go_core.proofs.TasksGrow.{Within, has_vars}
+use Rattle.go_core.proofs.UntaggedLemmas.{string_alike, are_alike}
 use Rattle.go_core.proofs.LeavesLemmas.{zeros_of}
 use Rattle.go_core.proofs.MemoryLemmas.{same_world, both_worlds, with_cells, cells_extend, fresh, fresh_lies}
 use Rattle.go_core.proofs.SameTypeLemmas.{type_one}
+use Rattle.go_core.proofs.TypedScalars.{as_pointer}
 use Rattle.go_core.proofs.OperatorsInterfaces.{row_sound}
 use Rattle.go_core.proofs.OpenedLemmas.{types_counted}
 use Rattle.go_core.proofs.OpenedScope.{within_ids}
@@ -58,7 +61,7 @@ module _ (p : CoreProgram) where
     pub memory_typed : MemoryTyped p world entry.memory
     pub frame_typed : (below : List Frame) → PurposeFits p world purpose results below → FrameTyped p world [] entry.frame below
     pub remains : Remains p world entry.frame [] entry.frame.tasks
-    pub gives : types_of_vars entry.frame.results ≡ results
+    pub gives : AreAlike (types_of_vars entry.frame.results) results
     pub with_purpose : entry.frame.purpose ≡ purpose
 
   values_count : (ts : List Ty) (w : World) (xs : List Value) → AreIn p w (values_of_types ts) xs → length ts ≡ length xs
@@ -116,7 +119,7 @@ module _ (p : CoreProgram) where
           purpose_fits = subst (λ rs. PurposeFits p b2.world purpose rs below) (sym r) fits;
         };
         remains = begin b2.world had b2.extends held1 (all_opened f.body []) t;
-        gives = r;
+        gives = ap untagged_list r;
         with_purpose = refl;
       }
 
@@ -131,7 +134,7 @@ receiver_had p had [] rest others v t ts e f h = absurd (cc)
 receiver_had p had (y ∷ ys) rest others v t ts e f h = subst (λ (z : Var). HasVar p had z.id z.type_) (first_var y v (ys ++ rest) others f) h.0
 
 module _ (p : CoreProgram) (sound : Sound p) where
-  plain : (w : World) (k : ℕ) (f : CoreFunc) → slice_get p.funcs k ≡ Some f → (bases : List ℕ) → AreAt p w.cells f.captured bases → (ts : List Ty) → (IsRowOf p k → ⊥) → ts ≡ listed_types f.params
+  plain : (w : World) (k : ℕ) (f : CoreFunc) → slice_get p.funcs k ≡ Some f → (bases : List ℕ) → AreAt p w.cells f.captured bases → (ts : List Ty) → (IsRowOf p k → ⊥) → AreAlike ts (listed_types f.params)
       → (vs : List Value) (purpose : Purpose) (m : Memory) → MemoryTyped p w m → AreIn p w (values_of_types ts) vs → Entry p w (listed_types f.results) purpose (entered_at p k (Some f) bases None vs purpose m)
   plain w k f e bases at ts no_row fit vs purpose m mt h = by_kind (sound.functions k f e) (sound.functions k f e).is_method
     where
@@ -140,7 +143,7 @@ module _ (p : CoreProgram) (sound : Sound p) where
       by_kind sf (inl c) =
           let q = parted (take sf.header f.vars) (listed_types f.params) (listed_types f.results) (sf.begins ∙ ap (λ r. r ++ listed_types f.params ++ listed_types f.results) c.0) in
           enters p w k f sf q.first q.second bases (record { operands = vs; first = []; memory = m }) w purpose q.whole q.second_types (func_vars_known p sound k f e) at (same_world w) mt
-          (subst (λ us. AreIn p w (values_of_types us) vs) (fit ∙ sym q.first_types) h) (λ v had x y us t. t)
+          (subst (λ us. AreIn p w (values_of_types us) vs) (sym q.first_types) (are_alike p w ts (listed_types f.params) vs fit h)) (λ v had x y us t. t)
 
   of_row : (w : World) (k : ℕ) (f : CoreFunc) → slice_get p.funcs k ≡ Some f → (v : Var) (others : List Var) → f.vars ≡ v ∷ others → IsRowOf p k → (bases : List ℕ) (a : Adapted) (u : World) (purpose : Purpose) → AreAt p u.cells f.captured bases
       → Extends w u → MemoryTyped p u a.memory → AreIn p u (values_of_types (v.type_ ∷ listed_types f.params)) a.operands
@@ -184,7 +187,7 @@ module _ (p : CoreProgram) (sound : Sound p) where
           let z = cells_extend w ls in
           of_row w k f e v others hv row bases (record { operands = (cell.pointer (next_base m) ∷ []) ∷ xs; first = []; memory = with_fresh m x }) u purpose
           (are_at p w u z f.captured bases at) z (fresh p w m ls x mt h.0)
-          (subst (λ t. IsOf p u t (cell.pointer (next_base m) ∷ [])) (sym c) (pointer_typed r.type_ (next_base m) (fresh_lies p w m ls mt), tt), are_in_grow p w u z (values_of_types (listed_types f.params)) xs h.1)
+          (subst (λ t. IsOf p u t (cell.pointer (next_base m) ∷ [])) (sym c) (as_pointer p u r.type_ (next_base m) (fresh_lies p w m ls mt), tt), are_in_grow p w u z (values_of_types (listed_types f.params)) xs h.1)
           (λ y rs had z2 q ts t. t)
 
       read : r.type_ ≡ ty.pointer v.type_ → Entry p w (listed_types f.results) purpose (entered_with p.names k f bases purpose (adapted p.names (through v) (x ∷ xs) m))
@@ -213,12 +216,31 @@ module _ (p : CoreProgram) (sound : Sound p) where
       let hv : f.vars ≡ s.receiver ∷ s.others = ap (λ (y : CoreFunc). y.vars) (sym same) ∙ s.has_vars in
       subst (λ o. Entry p w (listed_types f.results) purpose (entered_with p.names k f bases purpose (adapted p.names (receiver_of o f.vars) vs m))) (sym fit.1)
       (subst (λ l. Entry p w (listed_types f.results) purpose (entered_with p.names k f bases purpose (adapted p.names (receiver_of (Some r) l) vs m))) (sym hv)
-      (by_receiver w k f e s.receiver s.others hv (r, contained_at p.methods n r fit.1, fit.2) bases at r s.fits vs purpose m mt (subst (λ us. AreIn p w (values_of_types us) vs) fit.3 h)))
+      (by_receiver w k f e s.receiver s.others hv (r, contained_at p.methods n r fit.1, fit.2) bases at r s.fits vs purpose m mt (are_alike p w ts (r.type_ ∷ listed_types f.params) vs fit.3 h)))
+
+  -- results are asked for of types that differ in tags alone
+  fits_alike : (w : World) (purpose : Purpose) (rs results : List Ty) (below : List Frame) → AreAlike results rs → PurposeFits p w purpose results below → PurposeFits p w purpose rs below
+  fits_alike w called rs results below e h = tt
+  fits_alike w deferred rs results below e h = tt
+  fits_alike w reporting rs results below e h = (string_alike rs (sym e ∙ ap untagged_list h.0), h.1)
+
+  entry_alike : (w : World) (purpose : Purpose) (rs results : List Ty) (o : Option Entered) → AreAlike results rs → Entry p w rs purpose o → Entry p w results purpose o
+  entry_alike w purpose rs results o e h = record {
+    entry = h.entry;
+    is_entry = h.is_entry;
+    world = h.world;
+    extends = h.extends;
+    memory_typed = h.memory_typed;
+    frame_typed = λ below fits. h.frame_typed below (fits_alike h.world purpose rs results below e fits);
+    remains = h.remains;
+    gives = h.gives ∙ sym e;
+    with_purpose = h.with_purpose;
+  }
 
   -- what is called with operands of its types has a frame, which is typed
   pub enter : (w : World) (func : ℕ) (bases : List ℕ) (row : Option ℕ) (ts results : List Ty) (vs : List Value) (purpose : Purpose) (m : Memory) → MemoryTyped p w m → Takes p w.cells func bases row ts results
       → AreIn p w (values_of_types ts) vs → Entry p w results purpose (entered p func bases row vs purpose m)
   enter w func bases row ts results vs purpose m mt t h =
-      subst (λ rs. Entry p w rs purpose (entered p func bases row vs purpose m)) (sym t.results_fit)
+      entry_alike w purpose (listed_types t.function.results) results (entered p func bases row vs purpose m) t.results_fit
       (subst (λ o. Entry p w (listed_types t.function.results) purpose (entered_at p func o bases row vs purpose m)) (sym t.is_function)
       (by_fit w func t.function t.is_function bases t.captured_lie row ts t.operands_fit vs purpose m mt h))

@@ -2,6 +2,7 @@
 use Rattle.std.proofs.Common.{subst}
 use Rattle.std.specs.Prelude.{◌≡◌, ℕ, zero, suc, List, [], ◌∷◌, ◌++◌, Option, Some, None, slice_get, slice_set}
 use Rattle.go_type.specs.Tree.{Ty}
+use Rattle.go_core.specs.Untagged.{untagged}
 use Rattle.go_core.specs.CoreTree.{CoreProgram}
 use Rattle.go_core.specs.TypeOf.{int_type}
 use Rattle.go_core.specs.SoundNode.{types_of_vars}
@@ -9,7 +10,7 @@ use Rattle.go_core.specs.Goroutine.{Task, Invocation, invoke, nothing_to_invoke,
 use Rattle.go_core.specs.Leaves.{leaf, leaves_of}
 use Rattle.go_core.specs.Typed.{World, Extends}
 use Rattle.go_core.specs.Applies.{Slot, values_of_types, pushed_slots}
-use Rattle.go_core.specs.WellFormed.{ids_of, gives_below, PlacesTyped, GlobalsLie, InvocationTyped, InvocationsTyped, ModeTyped, FrameTyped, Remains, FramesTyped, ChannelFits, received_types, OfferTyped, OffersTyped, WaitsTyped, GoroutineTyped, GoroutinesTyped}
+use Rattle.go_core.specs.WellFormed.{ids_of, gives_below, PlacesTyped, GlobalsLie, InvocationTyped, InvocationsTyped, ModeTyped, FrameTyped, Remains, GoesOn, FramesTyped, ChannelFits, received_types, OfferTyped, OffersTyped, WaitsTyped, GoroutineTyped, GoroutinesTyped}
 use Rattle.go_core.proofs.TypedGrowth.{spans, channel_at, var_at, takes, scalar_grows, lists_grow, are_in_grow}
 use Rattle.go_core.proofs.TasksGrow.{tasks_grow}
 
@@ -44,14 +45,17 @@ module _ (p : CoreProgram) (w v : World) (x : Extends w v) where
   pub remains : (f : Frame) (slots : List Slot) (ts : List Task) → Remains p w f slots ts → Remains p v f slots ts
   remains f slots ts h = tasks_grow p w v (types_of_vars f.results) x (ids_of f.places) slots ts h (ids_of f.places) (λ u k. k)
 
+  goes_on : (f : Frame) (slots : List Slot) (given : List Ty) → GoesOn p w f slots given → GoesOn p v f slots given
+  goes_on f slots given h = (h.0, h.1, remains f (pushed_slots (values_of_types h.0) slots) f.tasks h.2)
+
   pub frames : (given : List Ty) (fs : List Frame) → FramesTyped p w given fs → FramesTyped p v given fs
   frames given [] h = tt
   frames given (f ∷ below) h =
-      ((h.0.0, frame h.0.0 f below h.0.1, remains f (pushed_slots (values_of_types given) h.0.0) f.tasks h.0.2), frames (gives_below f.purpose (types_of_vars f.results)) below h.1)
+      ((h.0.0, frame h.0.0 f below h.0.1, goes_on f h.0.0 given h.0.2), frames (gives_below f.purpose (types_of_vars f.results)) below h.1)
 
   fits : (c : Option ℕ) (t : Ty) → ChannelFits p w c t → ChannelFits p v c t
   fits None t h = tt
-  fits (Some name) t h = channel_at p w v x name t h
+  fits (Some name) t h = channel_at p w v x name (untagged t) h
 
   offer : (f : Frame) (slots : List Slot) (o : Offer) → OfferTyped p w f slots o → OfferTyped p v f slots o
   offer f slots (sending c y units after) h = (h.0, fits c h.0 h.1, lists_grow p w v x (leaves_of p.names h.0) y h.2, remains f slots (after ++ f.tasks) h.3)

@@ -13,7 +13,7 @@ use Rattle.go_core.specs.CoreTree.{CoreProgram}
 use Rattle.go_core.specs.TypeOf.{FieldTy, nth_field}
 use Rattle.go_core.specs.SoundNode.{every}
 use Rattle.go_core.specs.SoundProgram.{AreSet}
-use Rattle.go_core.specs.Leaves.{Leaf, filler, leaf, times, or_filler, leaves_with, field_leaves, leaves_under, name_leaves, leaves_of, Spans}
+use Rattle.go_core.specs.Leaves.{Leaf, filler, leaf_of, times, or_filler, leaves_with, field_leaves, leaves_under, name_leaves, leaves_of, Spans}
 use Rattle.go_core.specs.Typed.{World, truth_typed, whole_typed, text_typed, nil_typed, Lists}
 
 -- ---- sizes
@@ -78,7 +78,7 @@ module _ (p : CoreProgram) (w : World) where
       zeros_with (ty.array n t) = padded_filled (times n (leaves_with g t)) (parts_zeros (copies n (shape_with f t))) (zeros_times n (shape_with f t) (leaves_with g t) (zeros_with t))
       zeros_with (ty.struct fs) = padded_filled (field_leaves g fs) (parts_zeros (parts_with f fs)) (fields_zeros fs)
       zeros_with (ty.named id) = named_zeros id
-      zeros_with t = (nil_typed (leaf t) refl, tt)
+      zeros_with t = (nil_typed (leaf_of t) refl, tt)
 
       fields_zeros : (fs : Fields) → Lists p w (field_leaves g fs) (parts_zeros (parts_with f fs))
       fields_zeros no_fields = tt

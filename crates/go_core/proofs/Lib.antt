@@ -11,6 +11,7 @@ pub mod OpenedSkips
 pub mod OpenedLabels
 pub mod OpenedTargets
 pub mod OpenedStmts
+pub mod UntaggedLemmas
 pub mod LeavesLemmas
 pub mod MemoryLemmas
 pub mod SameTypeLemmas

@@ -10,7 +10,7 @@ use Rattle.go_core.specs.Layout.{shape_of, weight}
 use Rattle.go_core.specs.Memory as cell
 use Rattle.go_core.specs.Memory.{Scalar, Value, Memory, zeros, next_base, with_fresh, with_written}
 use Rattle.go_core.specs.CoreTree.{Expr, Bound, no_bound, bound as bound_, Stmts, Tests, Clauses, Var, CoreProgram}
-use Rattle.go_core.specs.SoundNode.{Around, with_loop, IsBool, IsInterface, types_of_vars, Answers}
+use Rattle.go_core.specs.SoundNode.{Around, with_loop, IsBool, IsInterface, types_of_vars}
 use Rattle.go_core.specs.Sound.{empty_interface}
 use Rattle.go_core.specs.SoundProgram.{Sound}
 use Rattle.go_core.specs.RunPanic.{RunPanic, panic_value, text_of}
@@ -30,8 +30,8 @@ use Rattle.go_core.specs.StepMemory.{global_base}
 use Rattle.go_core.specs.Assign as a
 use Rattle.go_core.specs.Control as k
 use Rattle.go_core.specs.GoStep as go
-use Rattle.go_core.specs.Leaves.{leaf, leaves_of, Spans}
-use Rattle.go_core.specs.Typed.{World, type_of_var, VarAt, AreAt, ScalarTyped, text_typed, function_typed, interface_typed, nil_typed, none_typed, more_typed, ScalarsTyped, IsOf, MemoryTyped, Extends}
+use Rattle.go_core.specs.Leaves.{leaf, leaf_of, leaves_of, Spans}
+use Rattle.go_core.specs.Typed.{World, type_of_var, VarAt, AreAt, AnswersLike, ScalarTyped, text_typed, interface_typed, nil_typed, none_typed, more_typed, ScalarsTyped, IsOf, MemoryTyped, Extends}
 use Rattle.go_core.specs.TasksTyped.{IsHad, AreHad, with_ids, IsVar, AreVars, HasVar, HasVars, GlobalsTyped, default_opened, TasksTyped, LoopTyped, no_task, operate_typed, local_typed, closure_typed, where_true_typed, where_false_typed, bind_typed, drop_typed, push_typed, declare_typed, globals_typed, choose_typed, turn_typed, endless_typed, again_typed, clause_typed, default_typed, leave_typed, branch_typed, bare_return_typed, return_typed, panic_typed, yield_typed, print_typed, exit_typed, fatal_typed, loop_typed}
 use Rattle.go_core.specs.Applies.{Slot, a_value, a_place, values_of_types, pushed_slots, AreIn, IsIn}
 use Rattle.go_core.specs.WellFormed.{ids_of, gives_below, PlacesTyped, FrameTyped, FramesTyped, GoroutineTyped, WellFormed}
@@ -41,7 +41,7 @@ use Rattle.go_core.proofs.TypedGrowth.{are_in_grow}
 use Rattle.go_core.proofs.TasksGrow.{Within, tasks_grow, has_vars}
 use Rattle.go_core.proofs.LeavesLemmas.{under_leaves, zeros_of}
 use Rattle.go_core.proofs.MemoryLemmas.{same_world, both_worlds, with_cells, cells_extend, fresh, fresh_lies, writes}
-use Rattle.go_core.proofs.TypedScalars.{is_bool, up_truth, interface_in, truth_in, whole_in, text_in, one_scalar, down, is_int, is_text, one_in}
+use Rattle.go_core.proofs.TypedScalars.{is_bool, up_truth, interface_in, truth_in, whole_in, text_in, as_function, one_scalar, down, is_int, is_text, one_in}
 use Rattle.go_core.proofs.OperatorsAll.{all}
 use Rattle.go_core.proofs.OpenedLemmas.{values_length as types_length}
 use Rattle.go_core.proofs.OpenedScope.{within_ids}
@@ -179,7 +179,7 @@ module _ (p : CoreProgram) (sound : Sound p) (choices : List ℕ) (move : Move) 
   pub keeps : (had : List ℕ) → ids_of f0.places ≡ had → (slots : List Slot) (ts : List Task) (vs : List Value) (units : ℕ) → AreIn p w slots vs → T had slots ts → WellFormed p (moved g (with_ ts vs ∷ below) units s)
   keeps had e slots ts vs units h t = keeps_in w (same_world w) s.memory wf.memory_typed (with_ ts vs) (typed_in w (same_world w) had e slots ts vs h t) units
 
-  none_asked : (t : Ty) → Answers p t no_specs
+  none_asked : (t : Ty) → AnswersLike p t no_specs
   none_asked t name package_ q e = absurd (cc)
 
   -- a run-time panic's value
@@ -249,7 +249,7 @@ module _ (p : CoreProgram) (sound : Sound p) (choices : List ℕ) (move : Move) 
   -- an interface value of any type is one of the empty interface
   any_interface : (t : Ty) (u : Ty) (x : Value) → underlying p.names t ≡ u → IsInterface u → IsOf p w t x → (Q : Value → Type 0) → ((y : Scalar) → ScalarTyped p w (leaf empty_interface) y → Q (y ∷ [])) → Q x
   any_interface t (ty.interface ms) x e i h Q cont =
-      one_scalar p w (leaf (ty.interface ms)) x Q (down p w sound.names_set t (ty.interface ms) x e h)
+      one_scalar p w (leaf_of (ty.interface ms)) x Q (down p w sound.names_set t (ty.interface ms) x e h)
       (λ y c. interface_in p w ms y (λ z. Q (z ∷ [])) c (cont cell.nil (nil_typed (leaf empty_interface) refl)) (λ q xs a b. cont (cell.interface q xs) (interface_typed no_specs q xs (none_asked q) b)))
   any_interface t _ x e i h Q cont = absurd i
 
@@ -409,7 +409,7 @@ module _ (p : CoreProgram) (sound : Sound p) (choices : List ℕ) (move : Move) 
       subst (λ o. KeepsWell p (go.closure_step p choices move g func o (with_ ts vs) below s)) (sym q)
       (subst (λ o. KeepsWell p (go.closure_with p choices move g func o (with_ ts vs) below s)) (sym b.are_bases)
       (keeps had e (a_value (ty.func c.params c.results c.variadic) ∷ st) ts ((cell.function func b.bases ∷ []) ∷ vs) (1 + length b.bases)
-      ((function_typed c.params c.results c.variadic func b.bases (record { function = c; is_function = q; captured_lie = b.lie; operands_fit = (nr, refl); results_fit = refl }), tt), h) t))
+      ((as_function p w c.params c.results c.variadic func b.bases (record { function = c; is_function = q; captured_lie = b.lie; operands_fit = (nr, refl); results_fit = refl }), tt), h) t))
   step _ _ _ (where_true_typed had st t q ts i x y) e l vs ts0 h = choice t st ts vs (λ b fr. k.right_or p g b false q fr below s) i h (λ b others r. by_right b false had e t st q ts others i r x y)
   step _ _ _ (where_false_typed had st t q ts i x y) e l vs ts0 h = choice t st ts vs (λ b fr. k.right_or p g (not b) true q fr below s) i h (λ b others r. by_right (not b) true had e t st q ts others i r x y)
   step _ _ _ (declare_typed had st v ts hv t) e l vs ts0 h = declared had e st v ts vs h hv t

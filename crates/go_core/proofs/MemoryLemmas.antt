@@ -4,10 +4,12 @@ use Rattle.std.specs.Prelude.{◌≡◌, ℕ, zero, suc, ◌+◌, List, [], ◌�
 use Rattle.std.proofs.lemmas.List.{append-nil}
 use Rattle.go_type.specs.Tree.{Ty}
 use Rattle.go_core.specs.Memory.{Scalar, Scalars, Value, Memory, Entry, MapState, Channel, listed, packed, read_cells, written, with_written, with_fresh, with_map, with_channel, set_map, next_base}
+use Rattle.go_core.specs.Untagged.{untagged}
 use Rattle.go_core.specs.CoreTree.{CoreProgram}
 use Rattle.go_core.specs.Leaves.{Leaf, Spans, leaves_of}
-use Rattle.go_core.specs.Typed.{World, MapTypes, ScalarTyped, ScalarsTyped, none_typed, more_typed, Lists, AllOf, EntriesOf, MapsTyped, ChannelsTyped, MemoryTyped, Extends}
+use Rattle.go_core.specs.Typed.{World, MapTypes, untagged_map, ScalarTyped, ScalarsTyped, none_typed, more_typed, Lists, AllOf, EntriesOf, MapsTyped, ChannelsTyped, MemoryTyped, Extends}
 use Rattle.go_core.proofs.TypedGrowth.{lists_grow}
+use Rattle.go_core.proofs.UntaggedLemmas.{twice, all_alike, entries_alike}
 use Rattle.go_core.proofs.LeavesLemmas.{lists_append}
 
 some_inj : {A : Type 0} (x y : A) → Some x ≡ Some y → x ≡ y
@@ -191,40 +193,51 @@ module _ (p : CoreProgram) (w : World) where
     pub is_at : slice_get ms i ≡ Some at
     pub typed : EntriesOf p w t.key t.value at.entries
 
-  pub map_found : (ts : List MapTypes) (ms : List MapState) (i : ℕ) (t : MapTypes) → MapsTyped p w ts ms → slice_get ts i ≡ Some t → MapFound t ms i
-  map_found [] ms i t h e = absurd (cc)
-  map_found (u ∷ ts) [] i t h e = absurd h
-  map_found (u ∷ ts) (m ∷ ms) zero t h e = record { at = m; is_at = refl; typed = subst (λ (v : MapTypes). EntriesOf p w v.key v.value m.entries) (some_inj u t e) h.0 }
-  map_found (u ∷ ts) (m ∷ ms) (suc i) t h e = let f = map_found ts ms i t h.1 e in record { at = f.at; is_at = f.is_at; typed = f.typed }
+  found_at : (ts : List MapTypes) (ms : List MapState) (i : ℕ) (t : MapTypes) → MapsTyped p w ts ms → slice_get ts i ≡ Some t → MapFound t ms i
+  found_at [] ms i t h e = absurd (cc)
+  found_at (u ∷ ts) [] i t h e = absurd h
+  found_at (u ∷ ts) (m ∷ ms) zero t h e = record { at = m; is_at = refl; typed = subst (λ (v : MapTypes). EntriesOf p w v.key v.value m.entries) (some_inj u t e) h.0 }
+  found_at (u ∷ ts) (m ∷ ms) (suc i) t h e = let f = found_at ts ms i t h.1 e in record { at = f.at; is_at = f.is_at; typed = f.typed }
 
-  pub map_set_at : (ts : List MapTypes) (ms : List MapState) (i : ℕ) (t : MapTypes) (s : MapState) → MapsTyped p w ts ms → slice_get ts i ≡ Some t → EntriesOf p w t.key t.value s.entries → MapsTyped p w ts (slice_set ms i s)
+  -- of these types, whatever their tags
+  to_untagged : (t : MapTypes) (es : List Entry) → EntriesOf p w t.key t.value es → EntriesOf p w (untagged t.key) (untagged t.value) es
+  to_untagged t es h = entries_alike p w t.key t.value (untagged t.key) (untagged t.value) es (sym (twice t.key)) (sym (twice t.value)) h
+
+  pub map_found : (ts : List MapTypes) (ms : List MapState) (i : ℕ) (t : MapTypes) → MapsTyped p w ts ms → slice_get ts i ≡ Some (untagged_map t) → MapFound t ms i
+  map_found ts ms i t h e =
+      let f = found_at ts ms i (untagged_map t) h e in
+      record { at = f.at; is_at = f.is_at; typed = entries_alike p w (untagged t.key) (untagged t.value) t.key t.value f.at.entries (twice t.key) (twice t.value) f.typed }
+
+  map_set_at : (ts : List MapTypes) (ms : List MapState) (i : ℕ) (t : MapTypes) (s : MapState) → MapsTyped p w ts ms → slice_get ts i ≡ Some t → EntriesOf p w t.key t.value s.entries → MapsTyped p w ts (slice_set ms i s)
   map_set_at [] ms i t s h e k = absurd (cc)
   map_set_at (u ∷ ts) [] i t s h e k = absurd h
   map_set_at (u ∷ ts) (m ∷ ms) zero t s h e k = (subst (λ (v : MapTypes). EntriesOf p w v.key v.value s.entries) (sym (some_inj u t e)) k, h.1)
   map_set_at (u ∷ ts) (m ∷ ms) (suc i) t s h e k = (h.0, map_set_at ts ms i t s h.1 e k)
 
-  pub sets_map : (m : Memory) (i : ℕ) (t : MapTypes) (s : MapState) → MemoryTyped p w m → slice_get w.maps i ≡ Some t → EntriesOf p w t.key t.value s.entries → MemoryTyped p w (set_map m i s)
-  sets_map m i t s h e k = record { cells_typed = h.cells_typed; maps_typed = map_set_at w.maps m.maps i t s h.maps_typed e k; channels_typed = h.channels_typed }
+  pub sets_map : (m : Memory) (i : ℕ) (t : MapTypes) (s : MapState) → MemoryTyped p w m → slice_get w.maps i ≡ Some (untagged_map t) → EntriesOf p w t.key t.value s.entries → MemoryTyped p w (set_map m i s)
+  sets_map m i t s h e k = record { cells_typed = h.cells_typed; maps_typed = map_set_at w.maps m.maps i (untagged_map t) s h.maps_typed e (to_untagged t s.entries k); channels_typed = h.channels_typed }
 
 module _ (p : CoreProgram) (w : World) where
-  pub fresh_map : (m : Memory) (t : MapTypes) (s : MapState) → MemoryTyped p w m → EntriesOf p w t.key t.value s.entries → MemoryTyped p (with_map_types w t) (with_map m s)
+  pub fresh_map : (m : Memory) (t : MapTypes) (s : MapState) → MemoryTyped p w m → EntriesOf p w t.key t.value s.entries → MemoryTyped p (with_map_types w (untagged_map t)) (with_map m s)
   fresh_map m t s h k =
-      let v = with_map_types w t in
-      let x = map_extends w t in
+      let u = untagged_map t in
+      let v = with_map_types w u in
+      let x = map_extends w u in
       record {
         cells_typed = lists_grow p w v x w.cells m.cells h.cells_typed;
-        maps_typed = maps_append p v w.maps m.maps t s (maps_grow p w v x w.maps m.maps h.maps_typed) (entries_grow p w v x t.key t.value s.entries k);
+        maps_typed = maps_append p v w.maps m.maps u s (maps_grow p w v x w.maps m.maps h.maps_typed) (entries_grow p w v x u.key u.value s.entries (to_untagged p w t s.entries k));
         channels_typed = channels_grow p w v x w.channels m.channels h.channels_typed;
       }
 
-  pub fresh_channel : (m : Memory) (t : Ty) (c : Channel) → MemoryTyped p w m → AllOf p w t c.values → MemoryTyped p (with_channel_type w t) (with_channel m c)
+  pub fresh_channel : (m : Memory) (t : Ty) (c : Channel) → MemoryTyped p w m → AllOf p w t c.values → MemoryTyped p (with_channel_type w (untagged t)) (with_channel m c)
   fresh_channel m t c h k =
-      let v = with_channel_type w t in
-      let x = channel_extends w t in
+      let u = untagged t in
+      let v = with_channel_type w u in
+      let x = channel_extends w u in
       record {
         cells_typed = lists_grow p w v x w.cells m.cells h.cells_typed;
         maps_typed = maps_grow p w v x w.maps m.maps h.maps_typed;
-        channels_typed = channels_append p v w.channels m.channels t c (channels_grow p w v x w.channels m.channels h.channels_typed) (all_grow p w v x t c.values k);
+        channels_typed = channels_append p v w.channels m.channels u c (channels_grow p w v x w.channels m.channels h.channels_typed) (all_grow p w v x u c.values (all_alike p w t u c.values (sym (twice t)) k));
       }
 
 pub last_one : {A : Type 0} (xs : List A) (x : A) → slice_get (xs ++ x ∷ []) (length xs) ≡ Some x

@@ -26,7 +26,7 @@ use Rattle.go_core.specs.TypingLaws.{DidTyped}
 use Rattle.go_core.proofs.LeavesLemmas.{zeros_of}
 use Rattle.go_core.proofs.TypedGrowth.{spans}
 use Rattle.go_core.proofs.MemoryLemmas.{lists_length, reads, writes, fresh, fresh_lies, with_cells, cells_extend}
-use Rattle.go_core.proofs.TypedScalars.{none_in, one_in, two_in, place_in, one_scalar, pointer_in, kept}
+use Rattle.go_core.proofs.TypedScalars.{none_in, one_in, two_in, place_in, as_pointer, one_scalar, pointer_in, kept}
 use Rattle.go_core.proofs.OperatorsNumbers as n
 use Rattle.go_core.proofs.OperatorsSlices as l
 use Rattle.go_core.proofs.OperatorsMaps as d
@@ -75,7 +75,7 @@ module _ (p : CoreProgram) (sound : Sound p) (w : World) (m : Memory) (mt : Memo
   new_pointer : (t : Ty) → DidTyped p w (a_value (ty.pointer t) ∷ []) (new_step (shape_of p.names t) m)
   new_pointer t =
       let ls = leaves_of p.names t in
-      (with_cells w ls, cells_extend w ls, fresh p w m ls (zeros (shape_of p.names t)) mt (zeros_of p w p.names t), ((pointer_typed t (next_base m) (fresh_lies p w m ls mt), tt), tt))
+      (with_cells w ls, cells_extend w ls, fresh p w m ls (zeros (shape_of p.names t)) mt (zeros_of p w p.names t), ((as_pointer p (with_cells w ls) t (next_base m) (fresh_lies p w m ls mt), tt), tt))
 
   by_slice : (wanted : ℕ) (vs : List Value) (from t : Ty) (low high limit : Bool) (j k q : Ty) → IsInt (underlying p.names j) → IsInt (underlying p.names k) → IsInt (underlying p.names q) → SlicesTo p (underlying p.names from) from t
       → AreIn p w (a_value from ∷ slot_if low j ++ slot_if high k ++ slot_if limit q) vs → DidTyped p w (a_value t ∷ []) (operated p wanted (o.to_slice from low high limit) vs m)

@@ -10,6 +10,7 @@ use Rattle.go_type.specs.Underlying.{underlying}
 use Rattle.go_type.specs.Assignability.{IsAssignable, identical, shares_underlying, implements, goes_to_channel, is_nil_to, is_constant_to, IsChannelOf, IsConstantTo, has_nil, is_nil}
 use Rattle.go_type.specs.MethodSet.{IsInterfaceOf}
 use Rattle.go_core.specs.Layout.{kind_of, Shape, shape_of, size, weight, copies, nth_part, offset_in, located, further}
+use Rattle.go_core.specs.Untagged.{untagged, IsAlike}
 use Rattle.go_core.specs.Arithmetic.{wrapped}
 use Rattle.go_core.specs.Text.{encoded_number}
 use Rattle.go_core.specs.Memory as cell
@@ -24,13 +25,14 @@ use Rattle.go_core.specs.StepNumbers as n
 use Rattle.go_core.specs.StepMemory as s
 use Rattle.go_core.specs.StepMemory.{repeated}
 use Rattle.go_core.specs.StepSlices as l
-use Rattle.go_core.specs.Leaves.{Leaf, leaf, leaves_of, times, Spans}
-use Rattle.go_core.specs.Typed.{World, whole_typed, nil_typed, pointer_typed, slice_typed, interface_typed, channel_typed, Lists, IsOf, ScalarTyped, MemoryTyped}
+use Rattle.go_core.specs.Leaves.{Leaf, leaf, leaf_of, leaves_of, times, Spans}
+use Rattle.go_core.specs.Typed.{World, whole_typed, nil_typed, Lists, IsOf, ScalarTyped, MemoryTyped}
 use Rattle.go_core.specs.Applies.{a_value, values_of_types, AreIn, BuildsParts}
 use Rattle.go_core.specs.TypingLaws.{DidTyped}
+use Rattle.go_core.proofs.UntaggedLemmas.{leaves_alike}
 use Rattle.go_core.proofs.LeavesLemmas.{size_leaves, zeros_of, under_leaves, under_shape, unfilled, element_first, field_first}
 use Rattle.go_core.proofs.MemoryLemmas.{whole, written_over}
-use Rattle.go_core.proofs.TypedScalars.{whole_in, text_in, pointer_in, slice_in, map_in, channel_in, interface_in, one_scalar, down, up, if_did, kept}
+use Rattle.go_core.proofs.TypedScalars.{whole_in, text_in, pointer_in, slice_in, map_in, channel_in, interface_in, as_pointer, as_slice, as_channel, as_interface, one_scalar, down, up, if_did, kept}
 use Rattle.go_core.proofs.OperatorsNumbers.{made}
 use Rattle.go_core.proofs.OperatorsSlices.{all_whole, new_slice, repeated_zeros}
 
@@ -54,15 +56,18 @@ module _ (p : CoreProgram) (w : World) (set : AreSet p) (m : Memory) (mt : Memor
   as_it_is : (t u : Ty) (x : Value) → underlying p.names t ≡ u → Lists p w (leaves_of p.names u) x → D t (gives (x ∷ []) m 0)
   as_it_is t u x e h = ok t x 0 (up p w set t u x e h)
 
-  same : (t u : Ty) (x : Value) → underlying p.names t ≡ u → Lists p w (leaves_of p.names u) x → D t (n.converted p.names u u x m)
-  same t (ty.int a) x e h = number t a a x e h
-  same t ty.bool x e h = as_it_is t ty.bool x e h
-  same t u x e h = as_it_is t u x e h
+  -- between types that differ in tags alone
+  alike : (t u v : Ty) (x : Value) → underlying p.names t ≡ v → IsAlike u v → Lists p w (leaves_of p.names u) x → D t (n.converted p.names u v x m)
+  alike t (ty.int a) (ty.int b) x e g h = number t b a x e h
+  alike t (ty.int a) ty.str x e g h = absurd (cc)
+  alike t (ty.slice a) ty.str x e g h = absurd (cc)
+  alike t ty.str (ty.slice a) x e g h = absurd (cc)
+  alike t u v x e g h = as_it_is t v x e (subst (λ ls. Lists p w ls x) (leaves_alike p.names u v g) h)
 
   -- ---- texts and slices
 
   numbers_made : (t a : Ty) (name : IntName) (ks : List ℕ) → underlying p.names t ≡ ty.slice a → underlying p.names a ≡ ty.int name → D t (n.made_slice m ks)
-  numbers_made t a name [] e g = ok t (cell.slice (next_base m) 0 0 ∷ []) 1 (up p w set t (ty.slice a) (cell.slice (next_base m) 0 0 ∷ []) e (slice_typed a (next_base m) 0 0 (omega arith) tt, tt))
+  numbers_made t a name [] e g = ok t (cell.slice (next_base m) 0 0 ∷ []) 1 (up p w set t (ty.slice a) (cell.slice (next_base m) 0 0 ∷ []) e (as_slice p w a (next_base m) 0 0 (omega arith) tt, tt))
   numbers_made t a name (k ∷ ks) e g =
       if_did (D t) (nat_lt n.most_elements (length (k ∷ ks))) (panics bad_size 0) _ (λ q. tt)
       (λ q. new_slice p w set m mt t a (length (k ∷ ks)) (length (k ∷ ks)) (length (k ∷ ks)) (map n.whole_of (k ∷ ks)) e (omega arith)
@@ -74,9 +79,9 @@ module _ (p : CoreProgram) (w : World) (set : AreSet p) (m : Memory) (mt : Memor
       (λ y k. text_in p w y (λ z. D t (n.text_to_slice (ty.int name) (z ∷ []) m)) k (λ bytes. numbers_made t a name (n.elements_of (kind_of name) bytes) e g))
   text_slice t a _ x e g b h = absurd b
 
-  slice_text : (t a u : Ty) (x : Value) → underlying p.names t ≡ ty.str → IsByteOrRune u → Lists p w (leaf (ty.slice a) ∷ []) x → D t (n.slice_to_text p.names u x m)
+  slice_text : (t a u : Ty) (x : Value) → underlying p.names t ≡ ty.str → IsByteOrRune u → Lists p w (leaf_of (ty.slice a) ∷ []) x → D t (n.slice_to_text p.names u x m)
   slice_text t a (ty.int name) x e b h =
-      one_scalar p w (leaf (ty.slice a)) x (λ y. D t (n.slice_to_text p.names (ty.int name) y m)) h
+      one_scalar p w (leaf_of (ty.slice a)) x (λ y. D t (n.slice_to_text p.names (ty.int name) y m)) h
       (λ y k. slice_in p w a y (λ z. D t (n.slice_to_text p.names (ty.int name) (z ∷ []) m)) k (of_text t e []) (λ base len capacity le sp. of_text t e _))
   slice_text t a _ x e b h = absurd b
 
@@ -85,11 +90,11 @@ module _ (p : CoreProgram) (w : World) (set : AreSet p) (m : Memory) (mt : Memor
       one_scalar p w (leaf (ty.int a)) x (λ y. D t (n.converted p.names (ty.int a) ty.str y m)) h
       (λ y k. whole_in p w a y (λ z. D t (n.converted p.names (ty.int a) ty.str (z ∷ []) m)) k (λ v. of_text t e (encoded_number v)))
 
-  pointers : (t a b : Ty) (x : Value) → underlying p.names t ≡ ty.pointer b → underlying p.names a ≡ underlying p.names b → Lists p w (leaf (ty.pointer a) ∷ []) x → D t (gives (x ∷ []) m 0)
+  pointers : (t a b : Ty) (x : Value) → underlying p.names t ≡ ty.pointer b → IsAlike (underlying p.names a) (underlying p.names b) → Lists p w (leaf_of (ty.pointer a) ∷ []) x → D t (gives (x ∷ []) m 0)
   pointers t a b x e g h =
-      one_scalar p w (leaf (ty.pointer a)) x (λ y. D t (gives (y ∷ []) m 0)) h
-      (λ y k. pointer_in p w a y (λ z. D t (gives ((z ∷ []) ∷ []) m 0)) k (as_it_is t (ty.pointer b) (cell.nil ∷ []) e (nil_typed (leaf (ty.pointer b)) refl, tt))
-      (λ base sp. as_it_is t (ty.pointer b) (cell.pointer base ∷ []) e (pointer_typed b base (subst (Spans w.cells base) (under_leaves p set a ∙ ap (leaves_of p.names) g ∙ sym (under_leaves p set b)) sp), tt)))
+      one_scalar p w (leaf_of (ty.pointer a)) x (λ y. D t (gives (y ∷ []) m 0)) h
+      (λ y k. pointer_in p w a y (λ z. D t (gives ((z ∷ []) ∷ []) m 0)) k (as_it_is t (ty.pointer b) (cell.nil ∷ []) e (nil_typed (leaf_of (ty.pointer b)) refl, tt))
+      (λ base sp. as_it_is t (ty.pointer b) (cell.pointer base ∷ []) e (as_pointer p w b base (subst (Spans w.cells base) (under_leaves p set a ∙ leaves_alike p.names (underlying p.names a) (underlying p.names b) g ∙ sym (under_leaves p set b)) sp), tt)))
 
   by_kinds : (t u v : Ty) (x : Value) → underlying p.names t ≡ v → Converts p u v → Lists p w (leaves_of p.names u) x → D t (n.converted p.names u v x m)
   by_kinds t (ty.int a) (ty.int b) x e c h = number t b a x e h
@@ -103,16 +108,16 @@ module _ (p : CoreProgram) (w : World) (set : AreSet p) (m : Memory) (mt : Memor
 
   channels : (t u v : Ty) (x : Value) → underlying p.names t ≡ v → IsChannelOf u v → Lists p w (leaves_of p.names u) x → D t (n.converted p.names u v x m)
   channels t (ty.chan dir.Both a) (ty.chan d b) x e c h =
-      one_scalar p w (leaf (ty.chan dir.Both a)) x (λ y. D t (gives (y ∷ []) m 0)) h
-      (λ y k. channel_in p w dir.Both a y (λ z. D t (gives ((z ∷ []) ∷ []) m 0)) k (as_it_is t (ty.chan d b) (cell.nil ∷ []) e (nil_typed (leaf (ty.chan d b)) refl, tt))
-      (λ name at. as_it_is t (ty.chan d b) (cell.channel name ∷ []) e (channel_typed d b name (subst (λ q. slice_get w.channels name ≡ Some q) c at), tt)))
+      one_scalar p w (leaf_of (ty.chan dir.Both a)) x (λ y. D t (gives (y ∷ []) m 0)) h
+      (λ y k. channel_in p w dir.Both a y (λ z. D t (gives ((z ∷ []) ∷ []) m 0)) k (as_it_is t (ty.chan d b) (cell.nil ∷ []) e (nil_typed (leaf_of (ty.chan d b)) refl, tt))
+      (λ name at. as_it_is t (ty.chan d b) (cell.channel name ∷ []) e (as_channel p w d b name (subst (λ q. slice_get w.channels name ≡ Some (untagged q)) c at), tt)))
   channels t _ _ x e c h = absurd c
 
   interfaces : (t u v : Ty) (ms : Specs) (x : Value) → underlying p.names t ≡ v → IsInterfaceOf v ms → IsInterface u → AsksNoMore u v → Lists p w (leaves_of p.names u) x → D t (n.converted p.names u v x m)
   interfaces t (ty.interface ns) (ty.interface more) ms x e c i a h =
-      one_scalar p w (leaf (ty.interface ns)) x (λ y. D t (gives (y ∷ []) m 0)) h
-      (λ y k. interface_in p w ns y (λ z. D t (gives ((z ∷ []) ∷ []) m 0)) k (as_it_is t (ty.interface more) (cell.nil ∷ []) e (nil_typed (leaf (ty.interface more)) refl, tt))
-      (λ q xs g f. as_it_is t (ty.interface more) (cell.interface q xs ∷ []) e (interface_typed more q xs (λ name package_ s r. g name package_ s (a name package_ s r)) f, tt)))
+      one_scalar p w (leaf_of (ty.interface ns)) x (λ y. D t (gives (y ∷ []) m 0)) h
+      (λ y k. interface_in p w ns y (λ z. D t (gives ((z ∷ []) ∷ []) m 0)) k (as_it_is t (ty.interface more) (cell.nil ∷ []) e (nil_typed (leaf_of (ty.interface more)) refl, tt))
+      (λ q xs g f. as_it_is t (ty.interface more) (cell.interface q xs ∷ []) e (as_interface p w more q xs (λ name package_ s r. g name package_ s (a name package_ s r)) f, tt)))
   interfaces t (ty.interface ns) _ ms x e c i a h = absurd c
   interfaces t _ _ ms x e c i a h = absurd i
 
@@ -124,12 +129,12 @@ module _ (p : CoreProgram) (w : World) (set : AreSet p) (m : Memory) (mt : Memor
       one_scalar p w (leaf ty.nil) x (λ y. D t (n.converted p.names ty.nil v y m)) h (λ y k. nil_alone y (λ z. D t (n.converted p.names ty.nil v (z ∷ []) m)) k (nil_to v e c))
     where
       nil_to : (v : Ty) → underlying p.names t ≡ v → IsTrue (has_nil v) → D t (n.converted p.names ty.nil v (cell.nil ∷ []) m)
-      nil_to (ty.pointer a) e c = as_it_is t (ty.pointer a) (cell.nil ∷ []) e (nil_typed (leaf (ty.pointer a)) refl, tt)
-      nil_to (ty.func ps rs u) e c = as_it_is t (ty.func ps rs u) (cell.nil ∷ []) e (nil_typed (leaf (ty.func ps rs u)) refl, tt)
-      nil_to (ty.slice a) e c = as_it_is t (ty.slice a) (cell.nil ∷ []) e (nil_typed (leaf (ty.slice a)) refl, tt)
-      nil_to (ty.mapping a b) e c = as_it_is t (ty.mapping a b) (cell.nil ∷ []) e (nil_typed (leaf (ty.mapping a b)) refl, tt)
-      nil_to (ty.chan d a) e c = as_it_is t (ty.chan d a) (cell.nil ∷ []) e (nil_typed (leaf (ty.chan d a)) refl, tt)
-      nil_to (ty.interface ms) e c = as_it_is t (ty.interface ms) (cell.nil ∷ []) e (nil_typed (leaf (ty.interface ms)) refl, tt)
+      nil_to (ty.pointer a) e c = as_it_is t (ty.pointer a) (cell.nil ∷ []) e (nil_typed (leaf_of (ty.pointer a)) refl, tt)
+      nil_to (ty.func ps rs u) e c = as_it_is t (ty.func ps rs u) (cell.nil ∷ []) e (nil_typed (leaf_of (ty.func ps rs u)) refl, tt)
+      nil_to (ty.slice a) e c = as_it_is t (ty.slice a) (cell.nil ∷ []) e (nil_typed (leaf_of (ty.slice a)) refl, tt)
+      nil_to (ty.mapping a b) e c = as_it_is t (ty.mapping a b) (cell.nil ∷ []) e (nil_typed (leaf_of (ty.mapping a b)) refl, tt)
+      nil_to (ty.chan d a) e c = as_it_is t (ty.chan d a) (cell.nil ∷ []) e (nil_typed (leaf_of (ty.chan d a)) refl, tt)
+      nil_to (ty.interface ms) e c = as_it_is t (ty.interface ms) (cell.nil ∷ []) e (nil_typed (leaf_of (ty.interface ms)) refl, tt)
       nil_to _ e c = absurd (cc)
 
   nil_type : (from : Ty) → IsTrue (is_nil from) → from ≡ ty.nil
@@ -144,14 +149,13 @@ module _ (p : CoreProgram) (w : World) (set : AreSet p) (m : Memory) (mt : Memor
   is_interface (ty.interface ns) ms h = tt
   is_interface _ ms h = absurd h
 
-  by_alike : (from t : Ty) (x : Value) → underlying p.names from ≡ underlying p.names t → IsOf p w from x → D t (n.convert_step p.names from t x m)
-  by_alike from t x e h =
-      subst (λ u. D t (n.converted p.names u (underlying p.names t) x m)) (sym e) (same t (underlying p.names t) x refl (down p w set from (underlying p.names t) x e h))
+  by_alike : (from t : Ty) (x : Value) → IsAlike (underlying p.names from) (underlying p.names t) → IsOf p w from x → D t (n.convert_step p.names from t x m)
+  by_alike from t x e h = alike t (underlying p.names from) (underlying p.names t) x refl e (down p w set from (underlying p.names from) x refl h)
 
   by_assign : (from t : Ty) (x : Value) → IsAssignable p.names from t → IsInterface (underlying p.names from) ⊎ (IsInterface (underlying p.names t) → ⊥) → IsTyped (underlying p.names from)
       → AsksNoMore (underlying p.names from) (underlying p.names t) → IsOf p w from x → D t (n.convert_step p.names from t x m)
-  by_assign from t x (identical e) i y a h = by_alike from t x (ap (underlying p.names) e) h
-  by_assign from t x (shares_underlying e) i y a h = by_alike from t x e.0 h
+  by_assign from t x (identical e) i y a h = by_alike from t x (ap (λ u. untagged (underlying p.names u)) e) h
+  by_assign from t x (shares_underlying e) i y a h = by_alike from t x (ap untagged e.0) h
   by_assign from t x (implements c) (inl i) y a h = interfaces t (underlying p.names from) (underlying p.names t) c.0 x refl c.1 i a (down p w set from (underlying p.names from) x refl h)
   by_assign from t x (implements c) (inr i) y a h = absurd (i (is_interface (underlying p.names t) c.0 c.1))
   by_assign from t x (goes_to_channel c) i y a h = channels t (underlying p.names from) (underlying p.names t) x refl c.0 (down p w set from (underlying p.names from) x refl h)
@@ -174,14 +178,14 @@ module _ (p : CoreProgram) (w : World) (set : AreSet p) (m : Memory) (mt : Memor
   by_length from ty.str x e c h =
       one_scalar p w (leaf ty.str) x (λ y. D int_type (l.scalar_length y m)) (down p w set from ty.str x e h) (λ y k. text_in p w y (λ z. D int_type (l.scalar_length (z ∷ []) m)) k (λ bytes. int_of (length bytes)))
   by_length from (ty.slice a) x e c h =
-      one_scalar p w (leaf (ty.slice a)) x (λ y. D int_type (l.scalar_length y m)) (down p w set from (ty.slice a) x e h)
+      one_scalar p w (leaf_of (ty.slice a)) x (λ y. D int_type (l.scalar_length y m)) (down p w set from (ty.slice a) x e h)
       (λ y k. slice_in p w a y (λ z. D int_type (l.scalar_length (z ∷ []) m)) k (int_of 0) (λ base len capacity le sp. int_of len))
   by_length from (ty.array k a) x e c h = int_of k
   by_length from (ty.mapping a b) x e c h =
-      one_scalar p w (leaf (ty.mapping a b)) x (λ y. D int_type (l.scalar_length y m)) (down p w set from (ty.mapping a b) x e h)
+      one_scalar p w (leaf_of (ty.mapping a b)) x (λ y. D int_type (l.scalar_length y m)) (down p w set from (ty.mapping a b) x e h)
       (λ y k. map_in p w a b y (λ z. D int_type (l.scalar_length (z ∷ []) m)) k (int_of 0) (λ name at. int_of (l.entry_count (slice_get m.maps name))))
   by_length from (ty.chan d a) x e c h =
-      one_scalar p w (leaf (ty.chan d a)) x (λ y. D int_type (l.scalar_length y m)) (down p w set from (ty.chan d a) x e h)
+      one_scalar p w (leaf_of (ty.chan d a)) x (λ y. D int_type (l.scalar_length y m)) (down p w set from (ty.chan d a) x e h)
       (λ y k. channel_in p w d a y (λ z. D int_type (l.scalar_length (z ∷ []) m)) k (int_of 0) (λ name at. int_of (l.buffered (slice_get m.channels name))))
   by_length from (ty.pointer a) x e c h = int_of (s.count_of (underlying p.names a))
   by_length from _ x e c h = absurd c
@@ -191,11 +195,11 @@ module _ (p : CoreProgram) (w : World) (set : AreSet p) (m : Memory) (mt : Memor
 
   by_capacity : (from u : Ty) (x : Value) → underlying p.names from ≡ u → HasCapacity p u → IsOf p w from x → D int_type (l.measured p.names u l.scalar_capacity x m)
   by_capacity from (ty.slice a) x e c h =
-      one_scalar p w (leaf (ty.slice a)) x (λ y. D int_type (l.scalar_capacity y m)) (down p w set from (ty.slice a) x e h)
+      one_scalar p w (leaf_of (ty.slice a)) x (λ y. D int_type (l.scalar_capacity y m)) (down p w set from (ty.slice a) x e h)
       (λ y k. slice_in p w a y (λ z. D int_type (l.scalar_capacity (z ∷ []) m)) k (int_of 0) (λ base len capacity le sp. int_of capacity))
   by_capacity from (ty.array k a) x e c h = int_of k
   by_capacity from (ty.chan d a) x e c h =
-      one_scalar p w (leaf (ty.chan d a)) x (λ y. D int_type (l.scalar_capacity y m)) (down p w set from (ty.chan d a) x e h)
+      one_scalar p w (leaf_of (ty.chan d a)) x (λ y. D int_type (l.scalar_capacity y m)) (down p w set from (ty.chan d a) x e h)
       (λ y k. channel_in p w d a y (λ z. D int_type (l.scalar_capacity (z ∷ []) m)) k (int_of 0) (λ name at. int_of (l.capacity_of (slice_get m.channels name))))
   by_capacity from (ty.pointer a) x e c h = int_of (s.count_of (underlying p.names a))
   by_capacity from _ x e c h = absurd c

@@ -11,6 +11,7 @@ use Rattle.go_core.specs.Memory as cell
 use Rattle.go_core.specs.Memory.{Scalar, Scalars, Value, Memory, zeros, packed, listed}
 use Rattle.go_core.specs.CoreTree.{CoreFunc, MethodName, MethodRow, CoreProgram}
 use Rattle.go_core.specs.SameType.{same_type, same_types, same_truth}
+use Rattle.go_core.specs.Untagged.{untagged, untagged_types, untagged_list, AreAlike}
 use Rattle.go_core.specs.TypeOf.{listed_types, with_truth, Signature, spec_in, method_in}
 use Rattle.go_core.specs.SoundNode.{IsInterface, HasRow, Answers, AnswersTo, HasMethodType, IsSignature}
 use Rattle.go_core.specs.Sound.{empty_interface}
@@ -19,14 +20,15 @@ use Rattle.go_core.specs.Did.{Did, gives}
 use Rattle.go_core.specs.StepMaps as d
 use Rattle.go_core.specs.StepInterfaces as i
 use Rattle.go_core.specs.StepInterfaces.{row_of}
-use Rattle.go_core.specs.Leaves.{leaf, leaves_of}
-use Rattle.go_core.specs.Typed.{World, Takes, AreAt, method_typed, interface_typed, nil_typed, IsOf, ScalarTyped, ScalarsTyped, MemoryTyped}
+use Rattle.go_core.specs.Leaves.{leaf, leaf_of, leaves_of}
+use Rattle.go_core.specs.Typed.{World, Takes, AreAt, AnswersLike, interface_typed, nil_typed, IsOf, ScalarTyped, ScalarsTyped, MemoryTyped}
 use Rattle.go_core.specs.Applies.{Slot, a_value, values_of_types}
 use Rattle.go_core.specs.TypingLaws.{DidTyped}
+use Rattle.go_core.proofs.UntaggedLemmas.{types_alike, takes_alike, answers_like}
 use Rattle.go_core.proofs.LeavesLemmas.{under_leaves, zeros_of}
 use Rattle.go_core.proofs.MemoryLemmas.{to_lists, from_lists}
 use Rattle.go_core.proofs.SameTypeLemmas.{first_true, second_true, bytes_one, truth_one, type_one, types_one, row_found}
-use Rattle.go_core.proofs.TypedScalars.{interface_in, one_scalar, down, up, kept}
+use Rattle.go_core.proofs.TypedScalars.{interface_in, as_interface, as_method, one_scalar, down, up, kept}
 use Rattle.go_core.proofs.OperatorsMaps.{with_ok_typed}
 
 some_inj : {A : Type 0} (x y : A) → Some x ≡ Some y → x ≡ y
@@ -115,7 +117,7 @@ module _ (p : CoreProgram) (sound : Sound p) (w : World) (m : Memory) (mt : Memo
 
   by_wrap : (from t u : Ty) (x : Value) → underlying p.names t ≡ u → AnswersTo p from u → IsOf p w from x → D t (i.wrap_step p.names from x m)
   by_wrap from t (ty.interface ms) x e a h =
-      ok t (cell.interface from (packed x) ∷ []) (weight (shape_of p.names from)) (up p w sound.names_set t (ty.interface ms) (cell.interface from (packed x) ∷ []) e (interface_typed ms from (packed x) a (from_lists p w (leaves_of p.names from) x h), tt))
+      ok t (cell.interface from (packed x) ∷ []) (weight (shape_of p.names from)) (up p w sound.names_set t (ty.interface ms) (cell.interface from (packed x) ∷ []) e (as_interface p w ms from (packed x) (answers_like p from ms a) (from_lists p w (leaves_of p.names from) x h), tt))
   by_wrap from t _ x e a h = absurd a
 
   pub wraps : (from t : Ty) (x : Value) → AnswersTo p from (underlying p.names t) → IsOf p w from x → D t (i.wrap_step p.names from x m)
@@ -140,19 +142,19 @@ module _ (p : CoreProgram) (sound : Sound p) (w : World) (m : Memory) (mt : Memo
       if_step (values_of_types (with_truth ok_ (Some to))) (same_type t to) _ _
       (λ e. passes ok_ to (listed xs) (weight (shape_of p.names to)) (subst (λ u. IsOf p w u (listed xs)) (type_one t to e) (to_lists p w (leaves_of p.names t) xs h))) (fails ok_ to)
 
-  by_assert : (to u : Ty) (ok_ : Bool) (ms : Specs) (x : Scalar) → underlying p.names to ≡ u → ScalarTyped p w (leaf (ty.interface ms)) x
+  by_assert : (to u : Ty) (ok_ : Bool) (ms : Specs) (x : Scalar) → underlying p.names to ≡ u → ScalarTyped p w (leaf_of (ty.interface ms)) x
       → DidTyped p w (values_of_types (with_truth ok_ (Some to))) (i.asserted p to u ok_ x m)
   by_assert to (ty.interface ns) ok_ ms x e h =
       interface_in p w ms x (λ y. DidTyped p w (values_of_types (with_truth ok_ (Some to))) (i.asserted p to (ty.interface ns) ok_ y m)) h (fails ok_ to)
       (λ t xs a k. if_step (values_of_types (with_truth ok_ (Some to))) (i.implements p t ns) _ _
-      (λ f. passes ok_ to (cell.interface t xs ∷ []) 1 (up p w sound.names_set to (ty.interface ns) (cell.interface t xs ∷ []) e (interface_typed ns t xs (implements_answers p sound t ns f) k, tt))) (fails ok_ to))
+      (λ f. passes ok_ to (cell.interface t xs ∷ []) 1 (up p w sound.names_set to (ty.interface ns) (cell.interface t xs ∷ []) e (as_interface p w ns t xs (answers_like p t ns (implements_answers p sound t ns f)) k, tt))) (fails ok_ to))
   by_assert to u ok_ ms x e h =
       interface_in p w ms x (λ y. DidTyped p w (values_of_types (with_truth ok_ (Some to))) (i.asserted p to u ok_ y m)) h (fails ok_ to) (λ t xs a k. to_same to ok_ t xs k)
 
   pub asserts : (from to : Ty) (ok_ : Bool) (x : Value) → IsInterface (underlying p.names from) → IsOf p w from x → DidTyped p w (values_of_types (with_truth ok_ (Some to))) (i.assert_step p to ok_ x m)
   asserts from to ok_ x a h =
       let f = interface_is (underlying p.names from) a in
-      one_scalar p w (leaf (ty.interface f.0)) x (λ y. DidTyped p w (values_of_types (with_truth ok_ (Some to))) (i.assert_step p to ok_ y m)) (down p w sound.names_set from (ty.interface f.0) x f.1 h)
+      one_scalar p w (leaf_of (ty.interface f.0)) x (λ y. DidTyped p w (values_of_types (with_truth ok_ (Some to))) (i.assert_step p to ok_ y m)) (down p w sound.names_set from (ty.interface f.0) x f.1 h)
       (λ y k. by_assert to (underlying p.names to) ok_ f.0 y refl k)
 
   basic_leaves : (t u : Ty) → underlying p.names t ≡ u → leaves_of p.names t ≡ leaves_of p.names (i.basic_type t u)
@@ -161,7 +163,7 @@ module _ (p : CoreProgram) (sound : Sound p) (w : World) (m : Memory) (mt : Memo
   basic_leaves t ty.str e = under_leaves p sound.names_set t ∙ ap (leaves_of p.names) e
   basic_leaves t _ e = refl
 
-  none_asked : (t : Ty) → Answers p t no_specs
+  none_asked : (t : Ty) → AnswersLike p t no_specs
   none_asked t name package_ s e = absurd (cc)
 
   pub basics : (t : Ty) (x : Value) → underlying p.names t ≡ empty_interface → IsOf p w t x → D t (i.basic_step p.names x m)
@@ -184,34 +186,36 @@ module _ (p : CoreProgram) (sound : Sound p) (w : World) (m : Memory) (mt : Memo
       let type_is : row.type_ ≡ n.type_ = ap (λ (y : MethodRow). y.type_) (sym same) ∙ r.of_type in
       subst (λ o. D (ty.func ps rs v) (i.bound_or_not m units x o)) (sym e)
       (ok (ty.func ps rs v) (cell.bound_method at (packed x) ∷ []) units
-      (method_typed ps rs v at (packed x) row g k (subst (λ t. ScalarsTyped p w (leaves_of p.names t) (packed x)) (sym type_is) (from_lists p w (leaves_of p.names n.type_) x h)), tt))
+      (as_method p w ps rs v at (packed x) row g k (subst (λ t. ScalarsTyped p w (leaves_of p.names t) (packed x)) (sym type_is) (from_lists p w (leaves_of p.names n.type_) x h)), tt))
 
-  takes_as : (at : ℕ) (row : MethodRow) (f : CoreFunc) (ps rs : List Ty) → slice_get p.methods at ≡ Some row → slice_get p.funcs row.func ≡ Some f → listed_types f.params ≡ ps → listed_types f.results ≡ rs
+  takes_as : (at : ℕ) (row : MethodRow) (f : CoreFunc) (ps rs : List Ty) → slice_get p.methods at ≡ Some row → slice_get p.funcs row.func ≡ Some f → AreAlike ps (listed_types f.params) → AreAlike rs (listed_types f.results)
       → Takes p w.cells row.func [] (Some at) (row.type_ ∷ ps) rs
   takes_as at row f ps rs e g a b =
-      subst (λ xs. Takes p w.cells row.func [] (Some at) (row.type_ ∷ xs) rs) a (subst (λ ys. Takes p w.cells row.func [] (Some at) (row.type_ ∷ listed_types f.params) ys) b (row_takes p sound w at row f e g))
+      takes_alike p w.cells row.func [] (Some at) (row.type_ ∷ ps) (row.type_ ∷ listed_types f.params) rs (listed_types f.results) (ap (λ ts. untagged row.type_ ∷ ts) a) b (row_takes p sound w at row f e g)
 
   pub binds : (n : MethodName) (t : Ty) (x : Value) → HasMethodType p n t → IsOf p w n.type_ x → D t (i.bind_step p n x m)
   binds n t x h k =
       let c = h.1 in
       subst (λ u. D u (i.bind_step p n x m)) (sym h.2)
       (bound n c.at c.row h.0.params h.0.results h.0.variadic x (weight (shape_of p.names n.type_)) c.found c.is_row
-      (takes_as c.at c.row c.function (listed_types h.0.params) (listed_types h.0.results) c.is_row c.is_function (sym (tail_one n.type_ n.type_ (listed_types h.0.params) (listed_types c.function.params) c.operands_fit)) (ap listed_types (sym c.results_fit))) k)
+      (takes_as c.at c.row c.function (listed_types h.0.params) (listed_types h.0.results) c.is_row c.is_function (ap untagged_list (tail_one n.type_ n.type_ (listed_types h.0.params) (listed_types c.function.params) c.operands_fit)) (ap (λ ts. untagged_list (listed_types ts)) c.results_fit)) k)
 
-  by_spec : (t : Ty) (name package_ : List ℕ) (ms : Specs) (o : Option Signature) (x : Scalar) → spec_in name package_ ms ≡ o → IsSignature o t → ScalarTyped p w (leaf (ty.interface ms)) x
+  by_spec : (t : Ty) (name package_ : List ℕ) (ms : Specs) (o : Option Signature) (x : Scalar) → spec_in name package_ ms ≡ o → IsSignature o t → ScalarTyped p w (leaf_of (ty.interface ms)) x
       → D t (i.bind_dynamic_step p name package_ (x ∷ []) m)
   by_spec t name package_ ms None x e s h = absurd s
   by_spec t name package_ ms (Some f) x e s h =
       interface_in p w ms x (λ y. D t (i.bind_dynamic_step p name package_ (y ∷ []) m)) h tt
-      (λ q xs a k. let r = a name package_ f e in
+      (λ q xs a k. let z = a name package_ f e in
+      let r = z.has_row in
       subst (λ u. D u (i.bind_dynamic_step p name package_ (cell.interface q xs ∷ []) m)) (sym s)
       (bound (record { type_ = q; name = name; package_ = package_ }) r.at r.row f.params f.results f.variadic (listed xs) (weight (shape_of p.names q)) r.found r.is_row
-      (takes_as r.at r.row r.function (listed_types f.params) (listed_types f.results) r.is_row r.is_function (ap listed_types r.params_fit) (ap listed_types r.results_fit))
+      (takes_as r.at r.row r.function (listed_types f.params) (listed_types f.results) r.is_row r.is_function
+      (sym (types_alike r.function.params f.params (ap untagged_types r.params_fit ∙ z.params_alike))) (sym (types_alike r.function.results f.results (ap untagged_types r.results_fit ∙ z.results_alike))))
       (to_lists p w (leaves_of p.names q) xs k)))
 
   by_dynamic : (from t u : Ty) (name package_ : List ℕ) (x : Value) → underlying p.names from ≡ u → IsSignature (method_in name package_ u) t → IsOf p w from x → D t (i.bind_dynamic_step p name package_ x m)
   by_dynamic from t (ty.interface ms) name package_ x e s h =
-      one_scalar p w (leaf (ty.interface ms)) x (λ y. D t (i.bind_dynamic_step p name package_ y m)) (down p w sound.names_set from (ty.interface ms) x e h)
+      one_scalar p w (leaf_of (ty.interface ms)) x (λ y. D t (i.bind_dynamic_step p name package_ y m)) (down p w sound.names_set from (ty.interface ms) x e h)
       (λ y k. by_spec t name package_ ms (spec_in name package_ ms) y refl s k)
   by_dynamic from t _ name package_ x e s h = absurd s
 

@@ -13,13 +13,13 @@ use Rattle.go_core.specs.SoundProgram.{AreSet}
 use Rattle.go_core.specs.Equality.{same_key}
 use Rattle.go_core.specs.StepNumbers.{most_elements}
 use Rattle.go_core.specs.StepMaps as d
-use Rattle.go_core.specs.Leaves.{leaf}
-use Rattle.go_core.specs.Typed.{World, MapTypes, truth_typed, map_typed, IsOf, EntriesOf, MemoryTyped}
+use Rattle.go_core.specs.Leaves.{leaf_of}
+use Rattle.go_core.specs.Typed.{World, MapTypes, untagged_map, truth_typed, IsOf, EntriesOf, MemoryTyped}
 use Rattle.go_core.specs.Applies.{a_value, values_of_types, pair_slots, AreIn}
 use Rattle.go_core.specs.TypingLaws.{DidTyped}
 use Rattle.go_core.proofs.LeavesLemmas.{zeros_of}
 use Rattle.go_core.proofs.MemoryLemmas.{same_world, with_map_types, map_extends, fresh_map, last_one, maps_length, map_found, sets_map}
-use Rattle.go_core.proofs.TypedScalars.{map_in, one_scalar, down, up, kept}
+use Rattle.go_core.proofs.TypedScalars.{map_in, as_map, one_scalar, down, up, kept}
 
 module _ (p : CoreProgram) (w : World) where
   pub with_ok_typed : (ok : Bool) (t : Ty) (x : Value) (b : Bool) → IsOf p w t x → AreIn p w (values_of_types (with_truth ok (Some t))) (d.with_ok ok x b)
@@ -91,14 +91,14 @@ module _ (p : CoreProgram) (w : World) (set : AreSet p) (m : Memory) (mt : Memor
 
   pub gets : (t : Ty) (ok : Bool) (x key : Value) → underlying p.names t ≡ ty.mapping k v → IsOf p w t x → DidTyped p w (values_of_types (with_truth ok (Some v))) (d.map_get_step p.names (ty.mapping k v) ok x key m)
   gets t ok x key e h =
-      one_scalar p w (leaf (ty.mapping k v)) x (λ y. DidTyped p w (values_of_types (with_truth ok (Some v))) (d.map_get_step p.names (ty.mapping k v) ok y key m)) (down p w set t (ty.mapping k v) x e h)
+      one_scalar p w (leaf_of (ty.mapping k v)) x (λ y. DidTyped p w (values_of_types (with_truth ok (Some v))) (d.map_get_step p.names (ty.mapping k v) ok y key m)) (down p w set t (ty.mapping k v) x e h)
       (λ y g. map_in p w k v y (λ z. DidTyped p w (values_of_types (with_truth ok (Some v))) (d.map_get_step p.names (ty.mapping k v) ok (z ∷ []) key m)) g (got ok key cell.nil tt)
       (λ name at. let f = map_found p w w.maps m.maps name (record { key = k; value = v }) mt.maps_typed at in
       got ok key (cell.map name) (subst (λ o. EntriesOf p w k v (d.entries_in o)) (sym f.is_at) f.typed)))
 
   pub deletes : (t : Ty) (x key : Value) → underlying p.names t ≡ ty.mapping k v → IsOf p w t x → DidTyped p w [] (d.map_delete_step p.names (ty.mapping k v) x key m)
   deletes t x key e h =
-      one_scalar p w (leaf (ty.mapping k v)) x (λ y. DidTyped p w [] (d.map_delete_step p.names (ty.mapping k v) y key m)) (down p w set t (ty.mapping k v) x e h)
+      one_scalar p w (leaf_of (ty.mapping k v)) x (λ y. DidTyped p w [] (d.map_delete_step p.names (ty.mapping k v) y key m)) (down p w set t (ty.mapping k v) x e h)
       (λ y g. map_in p w k v y (λ z. DidTyped p w [] (d.map_delete_step p.names (ty.mapping k v) (z ∷ []) key m)) g (kept p w m mt [] [] (weight (shape_of p.names k) + weight (shape_of p.names v)) tt)
       (λ name at. let f = map_found p w w.maps m.maps name (record { key = k; value = v }) mt.maps_typed at in
       subst (λ o. DidTyped p w [] (d.entry_deleted p.names k v key name o m)) (sym f.is_at)
@@ -107,14 +107,14 @@ module _ (p : CoreProgram) (w : World) (set : AreSet p) (m : Memory) (mt : Memor
   new_or_not : (t : Ty) (units : ℕ) (o : Option MapState) → underlying p.names t ≡ ty.mapping k v → StateTyped p w k v o → DidTyped p w (a_value t ∷ []) (d.new_map_or_not m units o)
   new_or_not t units None e h = tt
   new_or_not t units (Some s) e h =
-      let us : MapTypes = record { key = k; value = v } in
+      let us : MapTypes = untagged_map (record { key = k; value = v }) in
       let z = maps_length p w w.maps m.maps mt.maps_typed in (
         with_map_types w us,
         map_extends w us,
-        fresh_map p w m us s mt h,
+        fresh_map p w m (record { key = k; value = v }) s mt h,
         (
           up p (with_map_types w us) set t (ty.mapping k v) (cell.map (length m.maps) ∷ []) e
-              (map_typed k v (length m.maps) (subst (λ n. slice_get (w.maps ++ us ∷ []) n ≡ Some us) (sym z) (last_one w.maps us)), tt),
+              (as_map p (with_map_types w us) k v (length m.maps) (subst (λ n. slice_get (w.maps ++ us ∷ []) n ≡ Some us) (sym z) (last_one w.maps us)), tt),
           tt,
         ),
       )

@@ -20,14 +20,14 @@ use Rattle.go_core.specs.Equality.{Verdict, equal, different, refused}
 use Rattle.go_core.specs.Did.{Did, gives}
 use Rattle.go_core.specs.StepNumbers as n
 use Rattle.go_core.specs.StepMemory as s
-use Rattle.go_core.specs.Leaves.{leaf, leaves_of, times, Spans}
-use Rattle.go_core.specs.Typed.{World, truth_typed, whole_typed, pointer_typed, IsOf, MemoryTyped}
+use Rattle.go_core.specs.Leaves.{leaf_of, leaves_of, times, Spans}
+use Rattle.go_core.specs.Typed.{World, truth_typed, whole_typed, IsOf, MemoryTyped}
 use Rattle.go_core.specs.Applies.{a_value, a_place, PlaceOf}
 use Rattle.go_core.specs.TypingLaws.{DidTyped}
 use Rattle.go_core.specs.WellFormed.{GlobalsLie}
 use Rattle.go_core.proofs.LeavesLemmas.{size_leaves, zeros_of, under_shape, under_leaves, field_spans, unfilled, spans_element}
 use Rattle.go_core.proofs.MemoryLemmas.{reads}
-use Rattle.go_core.proofs.TypedScalars.{is_int, pointer_in, slice_in, one_scalar, place_in, down, up, up_whole, up_truth, up_text, on_int, on_bool, on_str, if_did, kept, indexed}
+use Rattle.go_core.proofs.TypedScalars.{is_int, pointer_in, slice_in, as_pointer, one_scalar, place_in, down, up, up_whole, up_truth, up_text, on_int, on_bool, on_str, if_did, kept, indexed}
 
 get_within : {A : Type 0} (xs : List A) (k : ℕ) → k < length xs → (x : A) × (slice_get xs k ≡ Some x)
 get_within [] k lt = absurd (omega arith)
@@ -71,7 +71,7 @@ module _ (p : CoreProgram) (w : World) (set : AreSet p) (m : Memory) (mt : Memor
 
   pub deref : (q t : Ty) (x : Value) → underlying p.names q ≡ ty.pointer t → IsOf p w q x → P t (s.deref_step x m)
   deref q t x e h =
-      one_scalar p w (leaf (ty.pointer t)) x (λ y. P t (s.deref_step y m)) (down p w set q (ty.pointer t) x e h)
+      one_scalar p w (leaf_of (ty.pointer t)) x (λ y. P t (s.deref_step y m)) (down p w set q (ty.pointer t) x e h)
       (λ y g. pointer_in p w t y (λ z. P t (s.deref_step (z ∷ []) m)) g tt (λ base l. lies t base 0 l))
 
   pub field : (t : Ty) (k : ℕ) (f : FieldTy) (x : Value) → field_in (underlying p.names t) k ≡ Some f → PlaceOf p w t x → P f.type_ (s.field_step (shape_of p.names t) k x m)
@@ -98,7 +98,7 @@ module _ (p : CoreProgram) (w : World) (set : AreSet p) (m : Memory) (mt : Memor
   slice_elem t i u x y e j h g =
       subst (λ v. P u (s.slice_elem_step p.names v x y m)) (sym e)
       (on_int p w set i y (P u) _ j g
-      (λ index. one_scalar p w (leaf (ty.slice u)) x (λ z. P u (s.slice_elem_at (size (shape_of p.names u)) z index m)) (down p w set t (ty.slice u) x e h)
+      (λ index. one_scalar p w (leaf_of (ty.slice u)) x (λ z. P u (s.slice_elem_at (size (shape_of p.names u)) z index m)) (down p w set t (ty.slice u) x e h)
       (λ z l. slice_in p w u z (λ v. P u (s.slice_elem_at (size (shape_of p.names u)) (v ∷ []) index m)) l
       (indexed p w m mt (a_place u ∷ []) index 0 _ (λ at lt. absurd (omega arith)))
       (λ base len capacity le q. indexed p w m mt (a_place u ∷ []) index len _
@@ -111,7 +111,7 @@ module _ (p : CoreProgram) (w : World) (set : AreSet p) (m : Memory) (mt : Memor
       (λ base l. ok t (read_cells base (size (shape_of p.names t)) m.cells) (weight (shape_of p.names t)) (reads p w m base (size (shape_of p.names t)) (leaves_of p.names t) mt l (size_leaves p.names t)))
 
   pub address : (t : Ty) (x : Value) → PlaceOf p w t x → D (ty.pointer t) (gives (x ∷ []) m 0)
-  address t x h = place_in p w t x (λ y. D (ty.pointer t) (gives (y ∷ []) m 0)) h (λ base l. ok (ty.pointer t) (cell.pointer base ∷ []) 0 (pointer_typed t base l, tt))
+  address t x h = place_in p w t x (λ y. D (ty.pointer t) (gives (y ∷ []) m 0)) h (λ base l. ok (ty.pointer t) (cell.pointer base ∷ []) 0 (as_pointer p w t base l, tt))
 
   pub place : (t : Ty) (x : Value) → PlaceOf p w t x → P t (gives (x ∷ []) m 0)
   place t x h = kept p w m mt (a_place t ∷ []) (x ∷ []) 0 (h, tt)

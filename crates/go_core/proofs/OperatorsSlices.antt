@@ -22,13 +22,14 @@ use Rattle.go_core.specs.StepNumbers.{most_elements, whole_of}
 use Rattle.go_core.specs.StepMemory.{repeated}
 use Rattle.go_core.specs.StepSlices as l
 use Rattle.go_core.specs.StepSlices.{Bounds}
-use Rattle.go_core.specs.Leaves.{Leaf, leaf, leaves_of, times, Spans}
-use Rattle.go_core.specs.Typed.{World, MapTypes, whole_typed, nil_typed, slice_typed, map_typed, channel_typed, Lists, IsOf, MemoryTyped}
+use Rattle.go_core.specs.Leaves.{Leaf, leaf, leaf_of, leaves_of, times, Spans}
+use Rattle.go_core.specs.Untagged.{untagged}
+use Rattle.go_core.specs.Typed.{World, MapTypes, untagged_map, whole_typed, nil_typed, Lists, IsOf, MemoryTyped}
 use Rattle.go_core.specs.Applies.{Slot, a_value, slot_if, AreIn}
 use Rattle.go_core.specs.TypingLaws.{DidTyped}
 use Rattle.go_core.proofs.LeavesLemmas.{size_leaves, zeros_of, under_leaves, lists_append, unfilled, spans_times, spans_fewer}
 use Rattle.go_core.proofs.MemoryLemmas.{reads, writes, fresh, fresh_lies, with_cells, cells_extend, with_map_types, map_extends, fresh_map, with_channel_type, channel_extends, fresh_channel, last_one, maps_length, channels_length, same_world}
-use Rattle.go_core.proofs.TypedScalars.{pointer_in, slice_in, text_in, one_scalar, one_in, none_in, down, up, on_int, if_did, kept}
+use Rattle.go_core.proofs.TypedScalars.{pointer_in, slice_in, text_in, as_slice, as_map, as_channel, one_scalar, one_in, none_in, down, up, on_int, if_did, kept}
 use Rattle.go_core.proofs.OperatorsNumbers.{made}
 use Rattle.go_core.proofs.SameTypeLemmas.{first_true, second_true}
 
@@ -81,7 +82,7 @@ module _ (p : CoreProgram) (w : World) (set : AreSet p) (m : Memory) (mt : Memor
   new_slice t u len capacity units xs e le h =
       let ls = times capacity (leaves_of p.names u) in
       let v = with_cells w ls in
-      (v, cells_extend w ls, fresh p w m ls xs mt h, (up p v set t (ty.slice u) (cell.slice (next_base m) len capacity ∷ []) e (slice_typed u (next_base m) len capacity le (fresh_lies p w m ls mt), tt), tt))
+      (v, cells_extend w ls, fresh p w m ls xs mt h, (up p v set t (ty.slice u) (cell.slice (next_base m) len capacity ∷ []) e (as_slice p v u (next_base m) len capacity le (fresh_lies p w m ls mt), tt), tt))
 
   -- ---- parts
 
@@ -121,7 +122,7 @@ module _ (p : CoreProgram) (w : World) (set : AreSet p) (m : Memory) (mt : Memor
       let fewer = spans_fewer w.cells ls (base + low * length ls) (capacity - low) (limit - low) (omega (arith, a, b, c)) moved in
       let z = size_leaves p.names u in
       ok t _ 0 (up p w set t (ty.slice u) (cell.slice (base + low * size (shape_of p.names u)) (high - low) (limit - low) ∷ []) e
-      (slice_typed u (base + low * size (shape_of p.names u)) (high - low) (limit - low) (omega (arith, a, b)) (subst (λ k. Spans w.cells (base + low * k) (times (limit - low) ls)) (sym z) fewer), tt))
+      (as_slice p w u (base + low * size (shape_of p.names u)) (high - low) (limit - low) (omega (arith, a, b)) (subst (λ k. Spans w.cells (base + low * k) (times (limit - low) ls)) (sym z) fewer), tt))
 
   by_sliced : (from t : Ty) (u : Ty) (low high limit : Bool) (i j k : Ty) (x : Value) (vs : List Value) → underlying p.names from ≡ u → SlicesTo p u from t
       → IsInt (underlying p.names i) → IsInt (underlying p.names j) → IsInt (underlying p.names k) → IsOf p w from x → AreIn p w (slot_if low i ++ slot_if high j ++ slot_if limit k) vs
@@ -134,17 +135,17 @@ module _ (p : CoreProgram) (w : World) (set : AreSet p) (m : Memory) (mt : Memor
       (λ lo hi li d f v. made p w set m mt t (take (hi - lo) (drop lo bytes)) (subst (λ r. IsText (underlying p.names r)) h (subst IsText (sym e) tt))))))
   by_sliced from t (ty.slice u) low high limit i j k x vs e h a b c g q =
       let et : underlying p.names t ≡ ty.slice u = ap (underlying p.names) (sym h) ∙ e in
-      one_scalar p w (leaf (ty.slice u)) x (λ y. D t (l.sliced p.names (ty.slice u) (λ len capacity f. l.on_bounds low high limit len capacity vs f) y m)) (down p w set from (ty.slice u) x e g)
+      one_scalar p w (leaf_of (ty.slice u)) x (λ y. D t (l.sliced p.names (ty.slice u) (λ len capacity f. l.on_bounds low high limit len capacity vs f) y m)) (down p w set from (ty.slice u) x e g)
       (λ y z. slice_in p w u y (λ r. D t (l.sliced p.names (ty.slice u) (λ len capacity f. l.on_bounds low high limit len capacity vs f) (r ∷ []) m)) z
       (all_bounded (D t) low high limit i j k 0 0 vs _ a b c q
       (λ bs. in_order (D t) 0 (λ lo hi li. gives ((cell.nil ∷ []) ∷ []) m 0) bs.low bs.high bs.limit (λ pq. tt)
-      (λ lo hi li d f v. ok t (cell.nil ∷ []) 0 (up p w set t (ty.slice u) (cell.nil ∷ []) et (nil_typed (leaf (ty.slice u)) refl, tt)))))
+      (λ lo hi li d f v. ok t (cell.nil ∷ []) 0 (up p w set t (ty.slice u) (cell.nil ∷ []) et (nil_typed (leaf_of (ty.slice u)) refl, tt)))))
       (λ base len capacity le sp. all_bounded (D t) low high limit i j k len capacity vs _ a b c q
       (λ bs. in_order (D t) capacity (λ lo hi li. l.slice_part m base (size (shape_of p.names u)) lo hi li) bs.low bs.high bs.limit (λ pq. tt)
       (λ lo hi li d f v. part t u base capacity lo hi li et d f v sp))))
   by_sliced from t (ty.pointer r) low high limit i j k x vs e h a b c g q =
       let et : underlying p.names t ≡ ty.slice h.1 = ap (underlying p.names) h.3 in
-      one_scalar p w (leaf (ty.pointer r)) x (λ y. D t (l.sliced p.names (ty.pointer r) (λ len capacity f. l.on_bounds low high limit len capacity vs f) y m)) (down p w set from (ty.pointer r) x e g)
+      one_scalar p w (leaf_of (ty.pointer r)) x (λ y. D t (l.sliced p.names (ty.pointer r) (λ len capacity f. l.on_bounds low high limit len capacity vs f) y m)) (down p w set from (ty.pointer r) x e g)
       (λ y z. pointer_in p w r y (λ s. D t (l.sliced p.names (ty.pointer r) (λ len capacity f. l.on_bounds low high limit len capacity vs f) (s ∷ []) m)) z tt
       (λ base sp. subst (λ v. D t (l.array_sliced p.names v (λ len capacity f. l.on_bounds low high limit len capacity vs f) base m)) (sym h.2)
       (all_bounded (D t) low high limit i j k h.0 h.0 vs _ a b c q
@@ -167,7 +168,7 @@ module _ (p : CoreProgram) (w : World) (set : AreSet p) (m : Memory) (mt : Memor
   elements_in : (Q : Did → Type 0) (from a b : Ty) (y : Value) (f : Value → ℕ → Did) → underlying p.names from ≡ b → GoesInto p (ty.slice a) b → IsOf p w from y
       → ((more : Value) (count : ℕ) → Lists p w (times count (leaves_of p.names a)) more → Q (f more count)) → Q (l.on_elements (size (shape_of p.names a)) y m f)
   elements_in Q from a (ty.slice b) y f e h g k =
-      one_scalar p w (leaf (ty.slice b)) y (λ z. Q (l.on_elements (size (shape_of p.names a)) z m f)) (down p w set from (ty.slice b) y e g)
+      one_scalar p w (leaf_of (ty.slice b)) y (λ z. Q (l.on_elements (size (shape_of p.names a)) z m f)) (down p w set from (ty.slice b) y e g)
       (λ z t. slice_in p w b z (λ s. Q (l.on_elements (size (shape_of p.names a)) (s ∷ []) m f)) t (k [] 0 tt)
       (λ base len capacity le sp. k (read_cells base (len * size (shape_of p.names a)) m.cells) len
       (reads p w m base (len * size (shape_of p.names a)) (times len (leaves_of p.names a)) mt
@@ -199,7 +200,7 @@ module _ (p : CoreProgram) (w : World) (set : AreSet p) (m : Memory) (mt : Memor
       new_slice t a (len + count) capacity (1 + (len + count) * weight (shape_of p.names a)) (old ++ more ++ repeated rest (zeros (shape_of p.names a))) e le (subst (λ q. Lists p w q (old ++ more ++ repeated rest (zeros (shape_of p.names a)))) s all)
 
   nil_appended : (t a : Ty) (wanted : ℕ) (more : Value) (count : ℕ) → underlying p.names t ≡ ty.slice a → Lists p w (times count (leaves_of p.names a)) more → D t (l.appended (shape_of p.names a) wanted (cell.nil ∷ []) more count m)
-  nil_appended t a wanted more zero e h = ok t (cell.nil ∷ []) 0 (up p w set t (ty.slice a) (cell.nil ∷ []) e (nil_typed (leaf (ty.slice a)) refl, tt))
+  nil_appended t a wanted more zero e h = ok t (cell.nil ∷ []) 0 (up p w set t (ty.slice a) (cell.nil ∷ []) e (nil_typed (leaf_of (ty.slice a)) refl, tt))
   nil_appended t a wanted more (suc n) e h =
       if_did (D t) (nat_lt most_elements (suc n)) (panics bad_size 0) _ (λ q. tt)
       (λ q. let z : 0 + suc n ≡ suc n = omega arith in
@@ -217,7 +218,7 @@ module _ (p : CoreProgram) (w : World) (set : AreSet p) (m : Memory) (mt : Memor
         w,
         same_world w,
         writes p w m (base + len * size (shape_of p.names a)) (times count ls) more mt (subst (λ k. Spans w.cells (base + len * k) (times count ls)) (sym z) there) h,
-        (up p w set t (ty.slice a) (cell.slice base (len + count) capacity ∷ []) e (slice_typed a base (len + count) capacity fits sp, tt), tt),
+        (up p w set t (ty.slice a) (cell.slice base (len + count) capacity ∷ []) e (as_slice p w a base (len + count) capacity fits sp, tt), tt),
       ))
       (λ q. if_did (D t) (nat_lt most_elements (len + count)) (panics bad_size 0) _ (λ r. tt)
       (λ r. anew t a len count (l.new_capacity (len + count) wanted) (read_cells base (len * size (shape_of p.names a)) m.cells) more e (at_least (len + count) wanted)
@@ -226,7 +227,7 @@ module _ (p : CoreProgram) (w : World) (set : AreSet p) (m : Memory) (mt : Memor
   by_append : (t from u : Ty) (wanted : ℕ) (x y : Value) → underlying p.names t ≡ u → GoesInto p u (underlying p.names from) → IsOf p w t x → IsOf p w from y → D t (l.append_step p.names u wanted x y m)
   by_append t from (ty.slice a) wanted x y e h g k =
       elements_in (D t) from a (underlying p.names from) y (λ more count. l.appended (shape_of p.names a) wanted x more count m) refl h k
-      (λ more count q. one_scalar p w (leaf (ty.slice a)) x (λ z. D t (l.appended (shape_of p.names a) wanted z more count m)) (down p w set t (ty.slice a) x e g)
+      (λ more count q. one_scalar p w (leaf_of (ty.slice a)) x (λ z. D t (l.appended (shape_of p.names a) wanted z more count m)) (down p w set t (ty.slice a) x e g)
       (λ z r. slice_in p w a z (λ v. D t (l.appended (shape_of p.names a) wanted (v ∷ []) more count m)) r (nil_appended t a wanted more count e q)
       (λ base len capacity le sp. slice_appended t a wanted base len capacity more count e le sp q)))
   by_append t from _ wanted x y e h g k = absurd h
@@ -255,7 +256,7 @@ module _ (p : CoreProgram) (w : World) (set : AreSet p) (m : Memory) (mt : Memor
   by_copy : (t from u : Ty) (x y : Value) → underlying p.names t ≡ u → GoesInto p u (underlying p.names from) → IsOf p w t x → IsOf p w from y → D int_type (l.copy_step p.names u x y m)
   by_copy t from (ty.slice a) x y e h g k =
       elements_in (D int_type) from a (underlying p.names from) y (λ more count. l.copied (shape_of p.names a) x more count m) refl h k
-      (λ more count q. one_scalar p w (leaf (ty.slice a)) x (λ z. D int_type (l.copied (shape_of p.names a) z more count m)) (down p w set t (ty.slice a) x e g)
+      (λ more count q. one_scalar p w (leaf_of (ty.slice a)) x (λ z. D int_type (l.copied (shape_of p.names a) z more count m)) (down p w set t (ty.slice a) x e g)
       (λ z r. slice_in p w a z (λ v. D int_type (l.copied (shape_of p.names a) (v ∷ []) more count m)) r (ok int_type (cell.whole (pos 0) ∷ []) 0 (int_value (pos 0)))
       (λ base len capacity le sp. slice_copied a base len capacity more count le sp q)))
   by_copy t from _ x y e h g k = absurd h
@@ -290,14 +291,14 @@ module _ (p : CoreProgram) (w : World) (set : AreSet p) (m : Memory) (mt : Memor
 
   pub new_map : (t k v : Ty) → underlying p.names t ≡ ty.mapping k v → D t (l.made_map m)
   new_map t k v e =
-      let ts : MapTypes = record { key = k; value = v } in
+      let ts : MapTypes = untagged_map (record { key = k; value = v }) in
       let z = maps_length p w w.maps m.maps mt.maps_typed in (
         with_map_types w ts,
         map_extends w ts,
-        fresh_map p w m ts l.empty_map mt tt,
+        fresh_map p w m (record { key = k; value = v }) l.empty_map mt tt,
         (
           up p (with_map_types w ts) set t (ty.mapping k v) (cell.map (length m.maps) ∷ []) e
-              (map_typed k v (length m.maps) (subst (λ n. slice_get (w.maps ++ ts ∷ []) n ≡ Some ts) (sym z) (last_one w.maps ts)), tt),
+              (as_map p (with_map_types w ts) k v (length m.maps) (subst (λ n. slice_get (w.maps ++ ts ∷ []) n ≡ Some ts) (sym z) (last_one w.maps ts)), tt),
           tt,
         ),
       )
@@ -314,13 +315,14 @@ module _ (p : CoreProgram) (w : World) (set : AreSet p) (m : Memory) (mt : Memor
 
   new_channel : (t : Ty) (d : Dir) (u : Ty) (n : ℕ) → underlying p.names t ≡ ty.chan d u → D t (l.made_channel m n)
   new_channel t d u n e =
+      let us = untagged u in
       let z = channels_length p w w.channels m.channels mt.channels_typed in (
-        with_channel_type w u,
-        channel_extends w u,
+        with_channel_type w us,
+        channel_extends w us,
         fresh_channel p w m u (record { capacity = n; values = []; closed = false }) mt tt,
         (
-          up p (with_channel_type w u) set t (ty.chan d u) (cell.channel (length m.channels) ∷ []) e
-              (channel_typed d u (length m.channels) (subst (λ k. slice_get (w.channels ++ u ∷ []) k ≡ Some u) (sym z) (last_one w.channels u)), tt),
+          up p (with_channel_type w us) set t (ty.chan d u) (cell.channel (length m.channels) ∷ []) e
+              (as_channel p (with_channel_type w us) d u (length m.channels) (subst (λ k. slice_get (w.channels ++ us ∷ []) k ≡ Some us) (sym z) (last_one w.channels us)), tt),
           tt,
         ),
       )

@@ -4,22 +4,23 @@ use Rattle.std.specs.Prelude.{◌≡◌, ℕ, List, [], ◌∷◌, Bool, Some, N
 use Rattle.go_type.specs.Tree as ty
 use Rattle.go_type.specs.Tree.{Ty, Tys}
 use Rattle.go_type.specs.Underlying.{underlying}
-use Rattle.go_core.specs.Memory as cell
-use Rattle.go_core.specs.Memory.{Scalar, Scalars, Value, listed}
+use Rattle.go_core.specs.Memory.{Value, listed}
 use Rattle.go_core.specs.CoreTree.{CoreFunc, MethodName, MethodRow, CoreProgram}
 use Rattle.go_core.specs.TypeOf.{listed_types, Signature, method_in}
 use Rattle.go_core.specs.SoundProgram.{Sound}
 use Rattle.go_core.specs.StepInterfaces.{row_of}
 use Rattle.go_core.specs.Goroutine.{Place, Called, the_function, the_value, the_dynamic}
 use Rattle.go_core.specs.Calls.{Resolved, ready, nil_function, nil_interface, unresolved, bases_of, function_with, row_with, method_with, resolved}
-use Rattle.go_core.specs.Leaves.{leaf, leaves_of}
-use Rattle.go_core.specs.Typed.{World, Takes, ScalarTyped, ScalarsTyped, function_typed, method_typed, nil_typed}
+use Rattle.go_core.specs.Untagged.{untagged_types, untagged_list, AreAlike}
+use Rattle.go_core.specs.Leaves.{leaf_of, leaves_of}
+use Rattle.go_core.specs.Typed.{World, Takes}
 use Rattle.go_core.specs.TasksTyped.{CallTyped, calls_function, calls_method, calls_value, calls_dynamic}
 use Rattle.go_core.specs.Applies.{values_of_types, AreIn}
 use Rattle.go_core.specs.WellFormed.{ids_of, PlacesTyped}
+use Rattle.go_core.proofs.UntaggedLemmas.{types_alike, are_alike, takes_alike}
 use Rattle.go_core.proofs.MemoryLemmas.{to_lists}
 use Rattle.go_core.proofs.SameTypeLemmas.{row_found}
-use Rattle.go_core.proofs.TypedScalars.{interface_in, one_scalar, down}
+use Rattle.go_core.proofs.TypedScalars.{function_in, interface_in, one_scalar, down}
 use Rattle.go_core.proofs.OperatorsInterfaces.{row_takes}
 use Rattle.go_core.proofs.LocalFrames.{bases_found}
 
@@ -34,17 +35,9 @@ ResolvedTyped p w results nil_interface = Unit {0}
 ResolvedTyped p w results unresolved = ⊥
 
 module _ (p : CoreProgram) (sound : Sound p) (w : World) where
-  function_in : (ps rs : Tys) (variadic : Bool) (x : Scalar) (Q : Scalar → Type 0) → ScalarTyped p w (leaf (ty.func ps rs variadic)) x → Q cell.nil
-      → ((func : ℕ) (bases : List ℕ) → Takes p w.cells func bases None (listed_types ps) (listed_types rs) → Q (cell.function func bases))
-      → ((row : ℕ) (receiver : Scalars) (r : MethodRow) → slice_get p.methods row ≡ Some r → Takes p w.cells r.func [] (Some row) (r.type_ ∷ listed_types ps) (listed_types rs) → ScalarsTyped p w (leaves_of p.names r.type_) receiver
-      → Q (cell.bound_method row receiver)) → Q x
-  function_in ps rs variadic x Q (function_typed a b c func bases h) n f g = f func bases h
-  function_in ps rs variadic x Q (method_typed a b c row receiver r at h k) n f g = g row receiver r at h k
-  function_in ps rs variadic x Q (nil_typed l e) n f g = n
-
   -- a method's row is found, and its function takes the receiver and the other operands
   by_method : (n : MethodName) (at : ℕ) (row : MethodRow) (f : CoreFunc) (results : List Ty) (vs : List Value) → row_of p n ≡ Some at → slice_get p.methods at ≡ Some row → slice_get p.funcs row.func ≡ Some f
-      → listed_types f.results ≡ results → AreIn p w (values_of_types (n.type_ ∷ listed_types f.params)) vs → ResolvedTyped p w results (method_with p vs (row_of p n))
+      → AreAlike results (listed_types f.results) → AreIn p w (values_of_types (n.type_ ∷ listed_types f.params)) vs → ResolvedTyped p w results (method_with p vs (row_of p n))
   by_method n at row f results vs e g k r h =
       let found = row_found n p.methods at e in
       let same : found.row ≡ row = some_inj found.row row (sym found.is_at ∙ g) in
@@ -52,7 +45,7 @@ module _ (p : CoreProgram) (sound : Sound p) (w : World) where
       subst (λ o. ResolvedTyped p w results (method_with p vs o)) (sym e)
       (subst (λ o. ResolvedTyped p w results (row_with vs at o)) (sym g) (
         row.type_ ∷ listed_types f.params,
-        subst (λ rs. Takes p w.cells row.func [] (Some at) (row.type_ ∷ listed_types f.params) rs) r (row_takes p sound w at row f g k),
+        takes_alike p w.cells row.func [] (Some at) (row.type_ ∷ listed_types f.params) (row.type_ ∷ listed_types f.params) results (listed_types f.results) refl r (row_takes p sound w at row f g k),
         subst (λ t. AreIn p w (values_of_types (t ∷ listed_types f.params)) vs) type_is h,
       ))
 
@@ -66,8 +59,8 @@ module _ (p : CoreProgram) (sound : Sound p) (w : World) where
       → ResolvedTyped p w (listed_types rs) (resolved p the_value qs vs)
   by_value qs t ps rs variadic [] e h = absurd h
   by_value qs t ps rs variadic (x ∷ xs) e h =
-      one_scalar p w (leaf (ty.func ps rs variadic)) x (λ y. ResolvedTyped p w (listed_types rs) (resolved p the_value qs (y ∷ xs))) (down p w sound.names_set t (ty.func ps rs variadic) x e h.0)
-      (λ y k. function_in ps rs variadic y (λ z. ResolvedTyped p w (listed_types rs) (resolved p the_value qs ((z ∷ []) ∷ xs))) k tt
+      one_scalar p w (leaf_of (ty.func ps rs variadic)) x (λ y. ResolvedTyped p w (listed_types rs) (resolved p the_value qs (y ∷ xs))) (down p w sound.names_set t (ty.func ps rs variadic) x e h.0)
+      (λ y k. function_in p w ps rs variadic y (λ z. ResolvedTyped p w (listed_types rs) (resolved p the_value qs ((z ∷ []) ∷ xs))) k tt
       (λ func bases q. (listed_types ps, q, h.1))
       (λ row receiver r at q c. subst (λ o. ResolvedTyped p w (listed_types rs) (row_with (listed receiver ∷ xs) row o)) (sym at) (r.type_ ∷ listed_types ps, q, (to_lists p w (leaves_of p.names r.type_) receiver c, h.1))))
 
@@ -75,11 +68,13 @@ module _ (p : CoreProgram) (sound : Sound p) (w : World) where
       → ResolvedTyped p w (listed_types s.results) (resolved p (the_dynamic name package_) qs vs)
   by_dynamic qs t u name package_ s [] e f h = absurd h
   by_dynamic qs t (ty.interface ms) name package_ s (x ∷ xs) e f h =
-      one_scalar p w (leaf (ty.interface ms)) x (λ y. ResolvedTyped p w (listed_types s.results) (resolved p (the_dynamic name package_) qs (y ∷ xs))) (down p w sound.names_set t (ty.interface ms) x e h.0)
+      one_scalar p w (leaf_of (ty.interface ms)) x (λ y. ResolvedTyped p w (listed_types s.results) (resolved p (the_dynamic name package_) qs (y ∷ xs))) (down p w sound.names_set t (ty.interface ms) x e h.0)
       (λ y k. interface_in p w ms y (λ z. ResolvedTyped p w (listed_types s.results) (resolved p (the_dynamic name package_) qs ((z ∷ []) ∷ xs))) k tt
-      (λ q ys a c. let r = a name package_ s f in
-      by_method (record { type_ = q; name = name; package_ = package_ }) r.at r.row r.function (listed_types s.results) (listed ys ∷ xs) r.found r.is_row r.is_function (ap listed_types r.results_fit)
-      (to_lists p w (leaves_of p.names q) ys c, subst (λ us. AreIn p w (values_of_types us) xs) (sym (ap listed_types r.params_fit)) h.1)))
+      (λ q ys a c. let z = a name package_ s f in
+      let r = z.has_row in
+      by_method (record { type_ = q; name = name; package_ = package_ }) r.at r.row r.function (listed_types s.results) (listed ys ∷ xs) r.found r.is_row r.is_function
+      (sym (types_alike r.function.results s.results (ap untagged_types r.results_fit ∙ z.results_alike)))
+      (to_lists p w (leaves_of p.names q) ys c, are_alike p w (listed_types s.params) (listed_types r.function.params) xs (sym (types_alike r.function.params s.params (ap untagged_types r.params_fit ∙ z.params_alike))) h.1)))
   by_dynamic qs t _ name package_ s vs e f h = absurd (cc)
 
   pub resolves : (qs : List Place) → PlacesTyped p w qs → (c : Called) (operands given : List Ty) → CallTyped p (ids_of qs) c operands given → (vs : List Value) → AreIn p w (values_of_types operands) vs → ResolvedTyped p w given (resolved p c qs vs)
@@ -87,6 +82,6 @@ module _ (p : CoreProgram) (sound : Sound p) (w : World) where
       let b = bases_found p w qs f.captured d had in
       by_function qs func f vs b.bases e b.are_bases (listed_types f.params, record { function = f; is_function = e; captured_lie = b.lie; operands_fit = (no_row, refl); results_fit = refl }, h)
   resolves qs d _ _ _ (calls_method n operands results c) vs h =
-      by_method n c.at c.row c.function (listed_types results) vs c.found c.is_row c.is_function (ap listed_types (sym c.results_fit)) (subst (λ us. AreIn p w (values_of_types us) vs) c.operands_fit h)
+      by_method n c.at c.row c.function (listed_types results) vs c.found c.is_row c.is_function (ap (λ rs. untagged_list (listed_types rs)) c.results_fit) (subst (λ us. AreIn p w (values_of_types us) vs) c.operands_fit h)
   resolves qs d _ _ _ (calls_value t ps rs variadic e) vs h = by_value qs t ps rs variadic vs e h
   resolves qs d _ _ _ (calls_dynamic t name package_ s e) vs h = by_dynamic qs t (underlying p.names t) name package_ s vs refl e h

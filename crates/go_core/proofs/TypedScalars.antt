@@ -1,6 +1,6 @@
 -- What a scalar of a leaf can be, and what follows of a step that looks at one.
 use Rattle.std.proofs.Common.{refl, sym, ap, ◌∙◌, subst}
-use Rattle.std.specs.Prelude.{◌≡◌, ◌<◌, ◌≤◌, ℕ, ℤ, pos, negsuc, List, [], ◌∷◌, Bool, true, false, if◌then◌else◌, nat_lt, Some, slice_get}
+use Rattle.std.specs.Prelude.{◌≡◌, ◌<◌, ◌≤◌, ℕ, ℤ, pos, negsuc, List, [], ◌∷◌, Bool, true, false, if◌then◌else◌, nat_lt, Some, None, slice_get}
 use Rattle.std.proofs.lemmas.Bool.{ltb-true}
 use Rattle.go_type.specs.declared.types.IntName.{IntName}
 use Rattle.go_type.specs.declared.types.Dir.{Dir}
@@ -9,16 +9,19 @@ use Rattle.go_type.specs.Tree.{Ty, Tys, Specs}
 use Rattle.go_type.specs.Underlying.{underlying}
 use Rattle.go_core.specs.Memory as cell
 use Rattle.go_core.specs.Memory.{Scalar, Scalars, Value, Memory, listed}
-use Rattle.go_core.specs.CoreTree.{CoreProgram}
-use Rattle.go_core.specs.SoundNode.{IsInt, IsBool, IsText, Answers}
+use Rattle.go_core.specs.Untagged.{untagged, untagged_types, untagged_specs}
+use Rattle.go_core.specs.CoreTree.{MethodRow, CoreProgram}
+use Rattle.go_core.specs.TypeOf.{listed_types}
+use Rattle.go_core.specs.SoundNode.{IsInt, IsBool, IsText}
 use Rattle.go_core.specs.SoundProgram.{AreSet}
 use Rattle.go_core.specs.RunPanic.{bad_index}
 use Rattle.go_core.specs.Did.{Did, gives, panics, on_truth, on_whole, on_text}
 use Rattle.go_core.specs.StepMemory.{on_index}
-use Rattle.go_core.specs.Leaves.{Leaf, leaf, leaves_of, times, Spans}
-use Rattle.go_core.specs.Typed.{World, ScalarTyped, ScalarsTyped, truth_typed, whole_typed, text_typed, nil_typed, pointer_typed, slice_typed, interface_typed, map_typed, channel_typed, Lists, IsOf, MemoryTyped}
+use Rattle.go_core.specs.Leaves.{Leaf, leaf, leaf_of, leaves_of, times, Spans}
+use Rattle.go_core.specs.Typed.{World, untagged_map, Takes, AnswersLike, ScalarTyped, ScalarsTyped, truth_typed, whole_typed, text_typed, nil_typed, pointer_typed, slice_typed, function_typed, method_typed, interface_typed, map_typed, channel_typed, Lists, IsOf, MemoryTyped}
 use Rattle.go_core.specs.Applies.{Slot, IsIn, AreIn, PlaceOf}
 use Rattle.go_core.specs.TypingLaws.{DidTyped}
+use Rattle.go_core.proofs.UntaggedLemmas.{leaves_untagged, listed_alike, takes_alike, answers_untagged, answers_tagged}
 use Rattle.go_core.proofs.LeavesLemmas.{under_leaves}
 use Rattle.go_core.proofs.MemoryLemmas.{same_world}
 
@@ -49,29 +52,70 @@ module _ (p : CoreProgram) (w : World) where
   text_in x Q (text_typed bytes) f = f bytes
   text_in x Q (nil_typed l e) f = absurd (cc)
 
-  pub pointer_in : (t : Ty) (x : Scalar) (Q : Scalar → Type 0) → ScalarTyped p w (leaf (ty.pointer t)) x → Q cell.nil → ((base : ℕ) → Spans w.cells base (leaves_of p.names t) → Q (cell.pointer base)) → Q x
-  pointer_in t x Q (pointer_typed u base h) n f = f base h
+  pub pointer_in : (t : Ty) (x : Scalar) (Q : Scalar → Type 0) → ScalarTyped p w (leaf_of (ty.pointer t)) x → Q cell.nil → ((base : ℕ) → Spans w.cells base (leaves_of p.names t) → Q (cell.pointer base)) → Q x
+  pointer_in t x Q (pointer_typed u base h) n f = f base (subst (λ ls. Spans w.cells base ls) (leaves_untagged p.names t) h)
   pointer_in t x Q (nil_typed l e) n f = n
 
-  pub slice_in : (t : Ty) (x : Scalar) (Q : Scalar → Type 0) → ScalarTyped p w (leaf (ty.slice t)) x → Q cell.nil
+  pub slice_in : (t : Ty) (x : Scalar) (Q : Scalar → Type 0) → ScalarTyped p w (leaf_of (ty.slice t)) x → Q cell.nil
       → ((base len capacity : ℕ) → len ≤ capacity → Spans w.cells base (times capacity (leaves_of p.names t)) → Q (cell.slice base len capacity)) → Q x
-  slice_in t x Q (slice_typed u base len capacity le h) n f = f base len capacity le h
+  slice_in t x Q (slice_typed u base len capacity le h) n f = f base len capacity le (subst (λ ls. Spans w.cells base (times capacity ls)) (leaves_untagged p.names t) h)
   slice_in t x Q (nil_typed l e) n f = n
 
-  pub map_in : (k v : Ty) (x : Scalar) (Q : Scalar → Type 0) → ScalarTyped p w (leaf (ty.mapping k v)) x → Q cell.nil
-      → ((name : ℕ) → slice_get w.maps name ≡ Some (record { key = k; value = v }) → Q (cell.map name)) → Q x
+  pub map_in : (k v : Ty) (x : Scalar) (Q : Scalar → Type 0) → ScalarTyped p w (leaf_of (ty.mapping k v)) x → Q cell.nil
+      → ((name : ℕ) → slice_get w.maps name ≡ Some (untagged_map (record { key = k; value = v })) → Q (cell.map name)) → Q x
   map_in k v x Q (map_typed a b name h) n f = f name h
   map_in k v x Q (nil_typed l e) n f = n
 
-  pub channel_in : (d : Dir) (t : Ty) (x : Scalar) (Q : Scalar → Type 0) → ScalarTyped p w (leaf (ty.chan d t)) x → Q cell.nil
-      → ((name : ℕ) → slice_get w.channels name ≡ Some t → Q (cell.channel name)) → Q x
+  pub channel_in : (d : Dir) (t : Ty) (x : Scalar) (Q : Scalar → Type 0) → ScalarTyped p w (leaf_of (ty.chan d t)) x → Q cell.nil
+      → ((name : ℕ) → slice_get w.channels name ≡ Some (untagged t) → Q (cell.channel name)) → Q x
   channel_in d t x Q (channel_typed e u name h) n f = f name h
   channel_in d t x Q (nil_typed l e) n f = n
 
-  pub interface_in : (ms : Specs) (x : Scalar) (Q : Scalar → Type 0) → ScalarTyped p w (leaf (ty.interface ms)) x → Q cell.nil
-      → ((t : Ty) (xs : Scalars) → Answers p t ms → ScalarsTyped p w (leaves_of p.names t) xs → Q (cell.interface t xs)) → Q x
-  interface_in ms x Q (interface_typed ns t xs h k) n f = f t xs h k
+  pub interface_in : (ms : Specs) (x : Scalar) (Q : Scalar → Type 0) → ScalarTyped p w (leaf_of (ty.interface ms)) x → Q cell.nil
+      → ((t : Ty) (xs : Scalars) → AnswersLike p t ms → ScalarsTyped p w (leaves_of p.names t) xs → Q (cell.interface t xs)) → Q x
+  interface_in ms x Q (interface_typed ns t xs h k) n f = f t xs (answers_tagged p t ms h) k
   interface_in ms x Q (nil_typed l e) n f = n
+
+  pub function_in : (ps rs : Tys) (variadic : Bool) (x : Scalar) (Q : Scalar → Type 0) → ScalarTyped p w (leaf_of (ty.func ps rs variadic)) x → Q cell.nil
+      → ((func : ℕ) (bases : List ℕ) → Takes p w.cells func bases None (listed_types ps) (listed_types rs) → Q (cell.function func bases))
+      → ((row : ℕ) (receiver : Scalars) (r : MethodRow) → slice_get p.methods row ≡ Some r → Takes p w.cells r.func [] (Some row) (r.type_ ∷ listed_types ps) (listed_types rs) → ScalarsTyped p w (leaves_of p.names r.type_) receiver
+      → Q (cell.bound_method row receiver)) → Q x
+  function_in ps rs variadic x Q (function_typed a b c func bases h) n f g =
+      f func bases (takes_alike p w.cells func bases None (listed_types ps) (listed_types (untagged_types ps)) (listed_types rs) (listed_types (untagged_types rs)) (sym (listed_alike ps)) (sym (listed_alike rs)) h)
+  function_in ps rs variadic x Q (method_typed a b c row receiver r at h k) n f g =
+      g row receiver r at
+      (takes_alike p w.cells r.func [] (Some row) (r.type_ ∷ listed_types ps) (r.type_ ∷ listed_types (untagged_types ps)) (listed_types rs) (listed_types (untagged_types rs))
+      (ap (λ ts. untagged r.type_ ∷ ts) (sym (listed_alike ps))) (sym (listed_alike rs)) h) k
+  function_in ps rs variadic x Q (nil_typed l e) n f g = n
+
+  -- ---- a scalar of a type, whatever its tags
+
+  pub as_pointer : (t : Ty) (base : ℕ) → Spans w.cells base (leaves_of p.names t) → ScalarTyped p w (leaf_of (ty.pointer t)) (cell.pointer base)
+  as_pointer t base h = pointer_typed (untagged t) base (subst (λ ls. Spans w.cells base ls) (sym (leaves_untagged p.names t)) h)
+
+  pub as_slice : (t : Ty) (base len capacity : ℕ) → len ≤ capacity → Spans w.cells base (times capacity (leaves_of p.names t)) → ScalarTyped p w (leaf_of (ty.slice t)) (cell.slice base len capacity)
+  as_slice t base len capacity le h = slice_typed (untagged t) base len capacity le (subst (λ ls. Spans w.cells base (times capacity ls)) (sym (leaves_untagged p.names t)) h)
+
+  pub as_map : (k v : Ty) (name : ℕ) → slice_get w.maps name ≡ Some (untagged_map (record { key = k; value = v })) → ScalarTyped p w (leaf_of (ty.mapping k v)) (cell.map name)
+  as_map k v name h = map_typed (untagged k) (untagged v) name h
+
+  pub as_channel : (d : Dir) (t : Ty) (name : ℕ) → slice_get w.channels name ≡ Some (untagged t) → ScalarTyped p w (leaf_of (ty.chan d t)) (cell.channel name)
+  as_channel d t name h = channel_typed d (untagged t) name h
+
+  pub as_interface : (ms : Specs) (t : Ty) (xs : Scalars) → AnswersLike p t ms → ScalarsTyped p w (leaves_of p.names t) xs → ScalarTyped p w (leaf_of (ty.interface ms)) (cell.interface t xs)
+  as_interface ms t xs h k = interface_typed (untagged_specs ms) t xs (answers_untagged p t ms h) k
+
+  pub as_function : (ps rs : Tys) (variadic : Bool) (func : ℕ) (bases : List ℕ) → Takes p w.cells func bases None (listed_types ps) (listed_types rs) → ScalarTyped p w (leaf_of (ty.func ps rs variadic)) (cell.function func bases)
+  as_function ps rs variadic func bases h =
+      function_typed (untagged_types ps) (untagged_types rs) variadic func bases
+      (takes_alike p w.cells func bases None (listed_types (untagged_types ps)) (listed_types ps) (listed_types (untagged_types rs)) (listed_types rs) (listed_alike ps) (listed_alike rs) h)
+
+  pub as_method : (ps rs : Tys) (variadic : Bool) (row : ℕ) (receiver : Scalars) (r : MethodRow) → slice_get p.methods row ≡ Some r → Takes p w.cells r.func [] (Some row) (r.type_ ∷ listed_types ps) (listed_types rs)
+      → ScalarsTyped p w (leaves_of p.names r.type_) receiver → ScalarTyped p w (leaf_of (ty.func ps rs variadic)) (cell.bound_method row receiver)
+  as_method ps rs variadic row receiver r at h k =
+      method_typed (untagged_types ps) (untagged_types rs) variadic row receiver r at
+      (takes_alike p w.cells r.func [] (Some row) (r.type_ ∷ listed_types (untagged_types ps)) (r.type_ ∷ listed_types ps) (listed_types (untagged_types rs)) (listed_types rs)
+      (ap (λ ts. untagged r.type_ ∷ ts) (listed_alike ps)) (listed_alike rs) h) k
 
   -- ---- a value of one scalar, and a place
 

@@ -1,15 +1,20 @@
--- The types of a value's scalars, one after another: as `Layout` has their shapes, with the whole type of each.
+-- The types of a value's scalars, one after another: as `Layout` has their shapes, with the whole type of each, but for
+-- tags. So types between which a conversion leaves a value as it is have the same leaves.
 -- Both go down a type in the same way and to the same depth.
 use Rattle.std.specs.Prelude.{◌≡◌, ℕ, zero, suc, List, [], ◌∷◌, ◌++◌, Option, Some, None, length, slice_get}
 use Rattle.go_type.specs.Tree.{Ty, Fields, array, struct, named, no_fields, more_fields}
 use Rattle.go_type.specs.Named.{NamedTy}
 use Rattle.go_type.specs.Underlying.{under_at}
+use Rattle.go_core.specs.Untagged.{untagged}
 
 pub data Leaf : Type 0 where
   -- the one scalar of a value that has none
   filler : Leaf
-  -- of this type, which is no struct, no array and not named
+  -- of this type, which is no struct, no array and not named, and has no tags
   leaf : (type_ : Ty) → Leaf
+
+abbrev pub leaf_of : Ty → Leaf
+leaf_of t = leaf (untagged t)
 
 abbrev pub times : ℕ → List Leaf → List Leaf
 times zero ls = []
@@ -26,7 +31,7 @@ module _ (of_name : ℕ → List Leaf) where
     leaves_with (array n t) = or_filler (times n (leaves_with t))
     leaves_with (struct fs) = or_filler (field_leaves fs)
     leaves_with (named id) = of_name id
-    leaves_with t = leaf t ∷ []
+    leaves_with t = leaf_of t ∷ []
 
     pub field_leaves : Fields → List Leaf
     field_leaves no_fields = []

@@ -4,6 +4,7 @@ pub mod GoRun
 pub mod Rows
 pub mod Layout
 pub mod SameType
+pub mod Untagged
 pub mod CoreTree
 pub mod Memory
 pub mod Arithmetic

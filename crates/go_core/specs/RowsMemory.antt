@@ -1,13 +1,15 @@
 -- Rows on memory, worked out by hand: Go specification (as of Go 1.17), "Variables", "Assignments", "Composite
--- literals", "Slice expressions", "Appending to and copying slices", "Map types", "Making slices, maps and channels".
+-- literals", "Slice expressions", "Appending to and copying slices", "Map types", "Making slices, maps and channels",
+-- "Conversions".
 use Rattle.std.specs.Prelude.{◌≡◌, ℕ, negsuc, List, [], ◌∷◌, ◌++◌, true, false, Some, codes}
 use Rattle.go_type.specs.Tree as ty
 use Rattle.go_type.specs.Tree.{Ty, Tys, no_tys, more_tys, no_specs, more_specs, no_fields, more_fields}
+use Rattle.go_type.specs.Named.{NamedTy}
 use Rattle.go_core.specs.CoreTree as core
 use Rattle.go_core.specs.CoreTree.{CoreProgram, CoreFunc, Expr, Stmt, Stmts, no_stmts, no_exprs, expr, Var}
 use Rattle.go_core.specs.Goroutine.{Move}
 use Rattle.go_core.specs.Run.{start}
-use Rattle.go_core.specs.MeaningWords.{int, ints, num, n_, str, exprs, var, say, let_var, to_var, define, call_, var_of, func_of, program, plain_move, played, shown_if_ended, outcome, prints, panics_with, same, cell_of, elements_from, int_slice, returns_}
+use Rattle.go_core.specs.MeaningWords.{int, ints, num, n_, str, exprs, var, say, let_var, to_var, define, call_, var_of, func_of, program, program_with, plain_move, played, shown_if_ended, outcome, prints, panics_with, same, cell_of, elements_from, int_slice, returns_}
 
 -- `struct { x, y int }`, and `[3]int`
 abbrev pub point : Ty
@@ -186,6 +188,89 @@ empty = ty.struct no_fields
 abbrev pub empty_variables : CoreProgram
 empty_variables = program (let_var 1 empty ∷ let_var 2 empty ∷ say (same (ty.pointer empty) (core.address (ty.pointer empty) (core.local_ 1)) (core.address (ty.pointer empty) (core.local_ 2)) ∷ same empty (var empty 1) (var empty 2) ∷ []) ∷ []) []
 
+-- ---- "Conversions": tags are ignored
+
+-- `struct { X int }` with this tag, and `struct { P *struct { X int } }` with it inside
+abbrev pub tagged : List ℕ → Ty
+tagged tag = ty.struct (more_fields (codes "X") [] int false tag no_fields)
+
+abbrev pub holder : List ℕ → Ty
+holder tag = ty.struct (more_fields (codes "P") [] (ty.pointer (tagged tag)) false [] no_fields)
+
+abbrev pub tag_a : List ℕ
+tag_a = codes "a"
+
+abbrev pub tag_b : List ℕ
+tag_b = codes "b"
+
+abbrev pub named_type : List ℕ → Ty → NamedTy
+named_type name t = record { name = name; package_ = codes "main"; under = Some t; methods = [] }
+
+-- `type A struct { X int "a" }`, `type B struct { X int "b" }`, `type C struct { P *struct { X int "a" } }`,
+-- `type D struct { P *struct { X int "b" } }`
+abbrev pub tagged_names : List NamedTy
+tagged_names = named_type (codes "A") (tagged tag_a) ∷ named_type (codes "B") (tagged tag_b) ∷ named_type (codes "C") (holder tag_a) ∷ named_type (codes "D") (holder tag_b) ∷ []
+
+abbrev pub type_a : Ty
+type_a = ty.named 1
+
+abbrev pub type_b : Ty
+type_b = ty.named 2
+
+abbrev pub type_c : Ty
+type_c = ty.named 3
+
+abbrev pub type_d : Ty
+type_d = ty.named 4
+
+abbrev pub pointer_a : Ty
+pointer_a = ty.pointer (tagged tag_a)
+
+abbrev pub pointer_b : Ty
+pointer_b = ty.pointer (tagged tag_b)
+
+abbrev pub reader : Ty → Ty
+reader t = ty.func (more_tys t no_tys) (more_tys int no_tys) false
+
+-- the field X of what a pointer points to
+abbrev pub x_at : Ty → Expr → Expr
+x_at t e = core.read int (core.field t 0 (core.deref e))
+
+-- `func(p *struct { X int "a" }) int { return p.X }`
+abbrev pub read_func : CoreFunc
+read_func = func_of (pointer_a ∷ []) (int ∷ []) (var_of 10 pointer_a ∷ var_of 11 int ∷ []) [] (returns_ (x_at (tagged tag_a) (var pointer_a 10) ∷ []) ∷ [])
+
+abbrev pub tagged_vars : List Var
+tagged_vars = var_of 1 type_a ∷ var_of 2 type_b ∷ var_of 3 (ty.pointer type_b) ∷ var_of 4 type_c ∷ var_of 5 type_d ∷ var_of 6 (ty.slice pointer_b) ∷ var_of 7 (reader pointer_b) ∷ []
+
+abbrev pub p_of_d : Expr
+p_of_d = core.read pointer_b (core.field type_d 0 (core.local_ 5))
+
+-- `a := A{4}`, `b := B(a)`, `p := (*B)(&a)`, `c := C{(*struct { X int "a" })(&a)}`, `d := D(c)`, `s` a slice of
+-- pointers and `f` a function that takes one, both made with the tag "a" and converted to those with "b"; `p.X = 8`,
+-- `println(b.X, p.X, d.P.X, s[0].X, f(d.P))`
+abbrev pub tagged_body : ℕ → List Stmt
+tagged_body reads =
+    define 1 type_a (core.build type_a 0 (core.element 0 (n_ 4) core.no_elements))
+    ++ define 2 type_b (core.convert type_a type_b (var type_a 1))
+    ++ define 3 (ty.pointer type_b) (core.convert (ty.pointer type_a) (ty.pointer type_b) (core.address (ty.pointer type_a) (core.local_ 1)))
+    ++ define 4 type_c (core.build type_c 0 (core.element 0 (core.convert (ty.pointer type_a) pointer_a (core.address (ty.pointer type_a) (core.local_ 1))) core.no_elements))
+    ++ define 5 type_d (core.convert type_c type_d (var type_c 4))
+    ++ define 6 (ty.slice pointer_b) (core.convert (ty.slice pointer_a) (ty.slice pointer_b) (core.build (ty.slice pointer_a) 1 (core.element 0 (core.read pointer_a (core.field type_c 0 (core.local_ 4))) core.no_elements)))
+    ++ define 7 (reader pointer_b) (core.convert (reader pointer_a) (reader pointer_b) (core.closure (reader pointer_a) reads))
+    ++ core.store (core.to_place int (core.field type_b 0 (core.deref (var (ty.pointer type_b) 3))) ∷ []) (exprs (n_ 8 ∷ []))
+    ∷ say (
+    core.read int (core.field type_b 0 (core.local_ 2))
+    ∷ x_at type_b (var (ty.pointer type_b) 3)
+    ∷ x_at (tagged tag_b) p_of_d
+    ∷ x_at (tagged tag_b) (cell_of (ty.slice pointer_b) pointer_b (var (ty.slice pointer_b) 6) (n_ 0))
+    ∷ core.call (more_tys int no_tys) (core.func_value (var (reader pointer_b) 7)) (exprs (p_of_d ∷ []))
+    ∷ [])
+    ∷ []
+
+abbrev pub tags_converted : CoreProgram
+tags_converted = program_with tagged_names [] (tagged_body 2) (read_func ∷ [])
+
 pub record RowsMemory : Type 0 where
   pub a_struct_is_copied : outcome structs_are_copied [] ≡ prints (codes "0 2 9 2\n")
   pub a_field_stays_in_place : outcome pointer_to_a_field [] ≡ prints (codes "4\n")
@@ -212,3 +297,4 @@ pub record RowsMemory : Type 0 where
   pub pointers_are_bases : outcome news [] ≡ prints (codes "4 true false\n")
   pub values_get_variables : outcome let_in [] ≡ prints (codes "8\n")
   pub empty_variables_differ : outcome empty_variables [] ≡ prints (codes "false true\n")
+  pub tags_are_ignored : outcome tags_converted [] ≡ prints (codes "4 8 8 8 8\n")

@@ -14,6 +14,7 @@ use Rattle.go_type.specs.Members.{Sought}
 use Rattle.go_type.specs.Assignability.{IsAssignable}
 use Rattle.go_core.specs.Layout.{kind_of, is_key_type, holds_by_value, shape_of, size}
 use Rattle.go_core.specs.Arithmetic.{wrapped}
+use Rattle.go_core.specs.Untagged.{IsAlike}
 use Rattle.go_core.specs.StepInterfaces.{row_of}
 use Rattle.go_core.specs.CoreTree as core
 use Rattle.go_core.specs.CoreTree.{Constant, truth_constant, whole_constant, text_constant, Expr, Exprs, no_exprs, expr, CorePlace, Bound, no_bound, bound, Elements, no_elements, element, Pairs, no_pairs, pair, Callee, Target, BranchKind, break_, continue_, Communication, Stmt, Stmts, no_stmts, stmt, Tests, no_tests, test, Clauses, no_clauses, clause, Cases, no_cases, case, Var, MethodName, MethodRow, CoreFunc, CoreProgram}
@@ -166,13 +167,13 @@ abbrev pub IsByteOrRune : Ty → Type 0
 IsByteOrRune (ty.int name) = (kind_of name ≡ kinds.U8) ⊎ (kind_of name ≡ kinds.I32)
 IsByteOrRune _ = ⊥
 
--- what a conversion can be beside one between types whose underlying types are identical
+-- what a conversion can be beside one between types whose underlying types are identical but for tags
 abbrev pub Converts : CoreProgram → Ty → Ty → Type 0
 Converts p (ty.int a) (ty.int b) = Unit {0}
 Converts p (ty.int a) ty.str = Unit {0}
 Converts p ty.str (ty.slice t) = IsByteOrRune (underlying p.names t)
 Converts p (ty.slice t) ty.str = IsByteOrRune (underlying p.names t)
-Converts p (ty.pointer a) (ty.pointer b) = underlying p.names a ≡ underlying p.names b
+Converts p (ty.pointer a) (ty.pointer b) = IsAlike (underlying p.names a) (underlying p.names b)
 Converts p a b = ⊥
 
 -- no value is of the type of an untyped constant
@@ -187,7 +188,7 @@ AsksNoMore _ _ = Unit {0}
 
 abbrev pub IsConversion : CoreProgram → Ty → Ty → Type 0
 IsConversion p from to =
-    (underlying p.names from ≡ underlying p.names to)
+    IsAlike (underlying p.names from) (underlying p.names to)
     ⊎ Converts p (underlying p.names from) (underlying p.names to)
     ⊎ IsAssignable p.names from to × (IsInterface (underlying p.names from) ⊎ (IsInterface (underlying p.names to) → ⊥))
     × IsTyped (underlying p.names from) × AsksNoMore (underlying p.names from) (underlying p.names to)

@@ -17,7 +17,7 @@ use Rattle.go_core.specs.Control.{left, continued, branched}
 use Rattle.go_core.specs.Goroutine as task
 use Rattle.go_core.specs.Goroutine.{Task, Called, the_function, the_method, the_value, the_dynamic, Cursor, numbers, copied, elements, characters, entries, Ranged, Case, CaseKind, case_sends, case_receives}
 use Rattle.go_core.specs.Leaves.{times, leaves_of, Spans}
-use Rattle.go_core.specs.Typed.{World, Lists, IsOf, type_of_var}
+use Rattle.go_core.specs.Typed.{World, untagged_map, Lists, IsOf, type_of_var}
 use Rattle.go_core.specs.Applies.{Slot, a_value, a_place, values_of_types, pushed_slots, AreIn, Applies}
 
 -- ---- variables that a frame has, by their numbers
@@ -105,7 +105,7 @@ module _ (p : CoreProgram) where
   CursorTyped w (ty.pointer t) (elements next count base) = (n : ℕ) × (u : Ty) × (underlying p.names t ≡ ty.array n u) × Spans w.cells base (times count (leaves_of p.names u))
   CursorTyped w ty.str (characters offset left_) = Unit {0}
   CursorTyped w (ty.mapping k v) (entries None produced since) = Unit {0}
-  CursorTyped w (ty.mapping k v) (entries (Some name) produced since) = slice_get w.maps name ≡ Some (record { key = k; value = v })
+  CursorTyped w (ty.mapping k v) (entries (Some name) produced since) = slice_get w.maps name ≡ Some (untagged_map (record { key = k; value = v }))
   -- what is nil has no elements
   CursorTyped w (ty.slice u) (numbers next count) = count ≡ 0
   CursorTyped w (ty.pointer t) (numbers next count) = count ≡ 0

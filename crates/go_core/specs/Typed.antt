@@ -6,11 +6,13 @@ use Rattle.go_type.specs.declared.types.Dir.{Dir}
 use Rattle.go_type.specs.declared.types.IntName.{IntName}
 use Rattle.go_type.specs.Tree as ty
 use Rattle.go_type.specs.Tree.{Ty, Tys, Specs}
+use Rattle.go_type.specs.Members.{Sought}
+use Rattle.go_core.specs.Untagged.{untagged, untagged_types, AreAlike}
 use Rattle.go_core.specs.Memory as cell
 use Rattle.go_core.specs.Memory.{Scalar, Scalars, no_scalars, scalar, Value, Entry, MapState, Channel, Memory}
 use Rattle.go_core.specs.CoreTree.{CoreFunc, MethodRow, CoreProgram}
-use Rattle.go_core.specs.TypeOf.{listed_types, var_type}
-use Rattle.go_core.specs.SoundNode.{Answers, IsRowOf}
+use Rattle.go_core.specs.TypeOf.{listed_types, var_type, Signature, spec_in}
+use Rattle.go_core.specs.SoundNode.{HasRow, IsRowOf}
 use Rattle.go_core.specs.SoundProgram.{all_vars}
 use Rattle.go_core.specs.Leaves.{Leaf, leaf, times, leaves_of, Spans}
 
@@ -18,8 +20,11 @@ pub record MapTypes : Type 0 where
   pub key : Ty
   pub value : Ty
 
+abbrev pub untagged_map : MapTypes → MapTypes
+untagged_map t = record { key = untagged t.key; value = untagged t.value }
+
 -- what lies where: of each place its leaf, of each map the types of its keys and values, and of each channel that
--- of its values
+-- of its values, all without tags
 pub record World : Type 0 where
   pub cells : List Leaf
   pub maps : List MapTypes
@@ -40,18 +45,31 @@ AreAt p cells [] [] = Unit {0}
 AreAt p cells (v ∷ vs) (b ∷ bs) = VarAt p cells v b × AreAt p cells vs bs
 AreAt p cells _ _ = ⊥
 
--- a function takes operands of these types; by a method's row the receiver comes first
+-- a function takes operands of these types, but for tags; by a method's row the receiver comes first
 abbrev pub OperandsFit : CoreProgram → ℕ → Option ℕ → CoreFunc → List Ty → Type 0
-OperandsFit p func None f ts = (IsRowOf p func → ⊥) × (ts ≡ listed_types f.params)
-OperandsFit p func (Some k) f ts = (row : MethodRow) × (slice_get p.methods k ≡ Some row) × (row.func ≡ func) × (ts ≡ row.type_ ∷ listed_types f.params)
+OperandsFit p func None f ts = (IsRowOf p func → ⊥) × AreAlike ts (listed_types f.params)
+OperandsFit p func (Some k) f ts = (row : MethodRow) × (slice_get p.methods k ≡ Some row) × (row.func ≡ func) × AreAlike ts (row.type_ ∷ listed_types f.params)
 
--- a function with the bases of what it captured can be called with operands of these types, and has these results
+-- a function with the bases of what it captured can be called with operands of these types, and has these results, but
+-- for tags
 pub record Takes (p : CoreProgram) (cells : List Leaf) (func : ℕ) (bases : List ℕ) (row : Option ℕ) (operands results : List Ty) : Type 0 where
   pub function : CoreFunc
   pub is_function : slice_get p.funcs func ≡ Some function
   pub captured_lie : AreAt p cells function.captured bases
   pub operands_fit : OperandsFit p func row function operands
-  pub results_fit : results ≡ listed_types function.results
+  pub results_fit : AreAlike results (listed_types function.results)
+
+-- a method of the type has its row, whose function has this signature, but for tags
+pub record HasRowLike (p : CoreProgram) (t : Ty) (f : Sought) (s : Signature) : Type 0 where
+  pub params : Tys
+  pub results : Tys
+  pub has_row : HasRow p t f params results s.variadic
+  pub params_alike : untagged_types params ≡ untagged_types s.params
+  pub results_alike : untagged_types results ≡ untagged_types s.results
+
+-- each method of the interface has its row, but for tags: a conversion leaves an interface value as it is
+abbrev pub AnswersLike : CoreProgram → Ty → Specs → Type 0
+AnswersLike p t ms = (name package_ : List ℕ) (s : Signature) → spec_in name package_ ms ≡ Some s → HasRowLike p t (record { name = name; package_ = package_ }) s
 
 -- the types that have `nil`
 abbrev pub takes_nil : Leaf → Bool
@@ -75,7 +93,7 @@ mutual
     method_typed : (ps rs : Tys) (variadic : Bool) (row : ℕ) (receiver : Scalars) (r : MethodRow)
         → slice_get p.methods row ≡ Some r → Takes p w.cells r.func [] (Some row) (r.type_ ∷ listed_types ps) (listed_types rs)
         → ScalarsTyped p w (leaves_of p.names r.type_) receiver → ScalarTyped p w (leaf (ty.func ps rs variadic)) (cell.bound_method row receiver)
-    interface_typed : (ms : Specs) (t : Ty) (xs : Scalars) → Answers p t ms → ScalarsTyped p w (leaves_of p.names t) xs
+    interface_typed : (ms : Specs) (t : Ty) (xs : Scalars) → AnswersLike p t ms → ScalarsTyped p w (leaves_of p.names t) xs
         → ScalarTyped p w (leaf (ty.interface ms)) (cell.interface t xs)
     map_typed : (k v : Ty) (name : ℕ) → slice_get w.maps name ≡ Some (record { key = k; value = v }) → ScalarTyped p w (leaf (ty.mapping k v)) (cell.map name)
     channel_typed : (d : Dir) (t : Ty) (name : ℕ) → slice_get w.channels name ≡ Some t → ScalarTyped p w (leaf (ty.chan d t)) (cell.channel name)

@@ -5,6 +5,7 @@ use Rattle.go_type.specs.Tree as ty
 use Rattle.go_type.specs.Tree.{Ty}
 use Rattle.go_core.specs.CoreTree.{CoreProgram}
 use Rattle.go_core.specs.TypeOf.{int_type, global_type}
+use Rattle.go_core.specs.Untagged.{untagged, AreAlike}
 use Rattle.go_core.specs.SoundNode.{types_of_vars}
 use Rattle.go_core.specs.Sound.{empty_interface}
 use Rattle.go_core.specs.StepMemory.{global_base}
@@ -64,11 +65,15 @@ module _ (p : CoreProgram) (w : World) where
   abbrev pub Remains : Frame → List Slot → List Task → Type 0
   Remains f slots ts = TasksTyped p w (types_of_vars f.results) (ids_of f.places) slots ts
 
+  -- what remains of it goes on once values of these types, but for tags, are there
+  abbrev pub GoesOn : Frame → List Slot → List Ty → Type 0
+  GoesOn f slots given = (wanted : List Ty) × AreAlike given wanted × Remains f (pushed_slots (values_of_types wanted) slots) f.tasks
+
   -- frames that go on once values of these types are there
   abbrev pub FramesTyped : List Ty → List Frame → Type 0
   FramesTyped given [] = Unit {0}
   FramesTyped given (f ∷ below) =
-      ((slots : List Slot) × FrameTyped slots f below × Remains f (pushed_slots (values_of_types given) slots) f.tasks)
+      ((slots : List Slot) × FrameTyped slots f below × GoesOn f slots given)
       × FramesTyped (gives_below f.purpose (types_of_vars f.results)) below
 
   -- ---- waiting
@@ -76,7 +81,7 @@ module _ (p : CoreProgram) (w : World) where
   -- a nil channel is of each type
   abbrev pub ChannelFits : Option ℕ → Ty → Type 0
   ChannelFits None t = Unit {0}
-  ChannelFits (Some name) t = slice_get w.channels name ≡ Some t
+  ChannelFits (Some name) t = slice_get w.channels name ≡ Some (untagged t)
 
   abbrev pub received_types : ℕ → Ty → List Ty
   received_types zero t = []

@@ -9,7 +9,7 @@ ghost use Rattle.go_core.specs.CommunicationSteps.{
   WaitingKeeps,
 };
 ghost use Rattle.go_core.specs.LocalSteps.{LocalStepsKeep};
-ghost use Rattle.go_core.specs.SoundSample.{SampleIsSound};
+ghost use Rattle.go_core.specs.SoundSample.{SampleIsSound, TagsAreIgnored};
 ghost use Rattle.go_core.specs.TypingLaws.{
   ExprsOpenTyped,
   OperatorsTyped,
@@ -75,7 +75,9 @@ pub fn steps()
     ensures goes_on { GoingGoesOn }
 {}
 
-/// There is a Sound program, so what is said of such programs is said of something.
+/// There is a Sound program, so what is said of such programs is said of something; and there is one that converts
+/// between types that differ in tags alone.
 pub fn sample()
     ensures sound { SampleIsSound }
+    ensures tags { TagsAreIgnored }
 {}

@@ -8,6 +8,7 @@ use Rattle.go_type.specs.Underlying.{underlying}
 use Rattle.go_type.specs.Members.{method, own_members, members_at, sought}
 use Rattle.go_type.specs.Exported.{is_exported}
 use Rattle.go_type.specs.MethodSet.{HasMethod}
+use Rattle.go_core.specs.Untagged.{untagged}
 use Rattle.go_core.specs.CoreTree.{CoreFunc, CoreProgram, Var}
 use Rattle.go_core.specs.TypeOf.{var_type}
 use Rattle.go_core.specs.SoundNode.{IsGoodType, HasRow}
@@ -72,7 +73,7 @@ module _ (ds : List t.Decl) (more : List NamedTy) (names : (program_of ds).names
     begins = refl;
     captured_known = refl;
     sound_types = error_types;
-    sound_body = (((((((hidden, receiver_lies), receiver_lies), refl, str_good, inl under_hidden), tt), refl), tt));
+    sound_body = (((((((hidden, receiver_lies), receiver_lies), refl, str_good, inl (ap untagged under_hidden)), tt), refl), tt));
     terminates = inr refl;
   }
 

@@ -12,6 +12,7 @@ use Rattle.go_type.specs.Tree as ty
 use Rattle.go_type.specs.Tree.{Ty, Tys, no_tys, more_tys}
 use Rattle.go_type.specs.Underlying.{underlying}
 use Rattle.go_core.specs.SameType.{same_types}
+use Rattle.go_core.specs.Untagged.{untagged}
 use Rattle.go_core.specs.Layout.{kind_of}
 use Rattle.go_core.specs.CoreTree as core
 use Rattle.go_core.specs.CoreTree.{CoreProgram, no_bound, bound}
@@ -229,7 +230,7 @@ module _ (p : CoreProgram) (a : Around) where
   is_conversion (ty.tuple ts) w h = inl (type_one (ty.tuple ts) w h)
 
   conversion_here : (u t : Ty) → (underlying p.names u ≡ underlying p.names t) ⊎ Converts p (underlying p.names u) (underlying p.names t) → IsConversion p u t
-  conversion_here u t (inl h) = inl h
+  conversion_here u t (inl h) = inl (ap untagged h)
   conversion_here u t (inr h) = inr (inl h)
 
   converted_value : (t : Ty) (c : core.Expr) (u : Ty) (v : Option Const) → IsScalarType p t → IsValue p a c u v → converts (underlying p.names u) (underlying p.names t) ≡ true → IsValue p a (core.convert u t c) t None

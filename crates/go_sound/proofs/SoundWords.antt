@@ -12,6 +12,7 @@ use Rattle.go_type.specs.Named.{NamedTy}
 use Rattle.go_type.specs.Underlying.{underlying, under_at, or_else}
 use Rattle.go_type.specs.Assignability.{one_undefined, has_nil}
 use Rattle.go_core.specs.SameType.{same_type}
+use Rattle.go_core.specs.Untagged.{untagged}
 use Rattle.go_core.specs.Layout.{Shape, holds_by_value, name_holds, holds_under, holds_with, is_comparable, shape_of, shape_with, shape_under, name_shape, size}
 use Rattle.go_type.specs.Parts.{compares}
 use Rattle.go_core.specs.CoreTree as core
@@ -358,7 +359,7 @@ module _ (p : CoreProgram) (a : Around) where
 
       by_test : (b : Bool) → same_type u t ≡ b → IsValue (if b then c else core.convert u t c) t v
       by_test true e = subst (λ (w : Ty). IsValue c w v) (type_one u t e) h
-      by_test false e = record { sound = (h.sound, h.gives, scalar_good p t s, inl (g e)); gives = refl; scalar = s; fits = moved v (g e) h.fits }
+      by_test false e = record { sound = (h.sound, h.gives, scalar_good p t s, inl (ap untagged (g e))); gives = refl; scalar = s; fits = moved v (g e) h.fits }
 
   pub truth_value_at : (t : Ty) (c : core.Expr) → IsTruth c → is_bool (underlying p.names t) ≡ true → IsScalarType p t → IsValue (truth_at t c) t None
   truth_value_at t c h b s = as_value c ty.bool t None (record { sound = h.sound; gives = h.gives; scalar = refl; fits = tt }) s (λ e. sym (bool_form (underlying p.names t) b))

@@ -3,7 +3,7 @@ use Rattle.std.specs.Prelude.{◌≡◌, [], codes, Some}
 use Rattle.std.specs.Fmt.{digits}
 use Rattle.go_core.specs.Run.{start}
 use Rattle.go_core.specs.MeaningWords.{played, shown_if_ended, outcome, prints, panics_with}
-use Rattle.go_core.specs.RowsMemory.{structs_are_copied, pointer_to_a_field, nil_pointer, two_phases, swap, index_in_the_second_phase, negative_index, index_at_the_length, append_in_place, append_anew, with_capacity, copy_overlaps, full_slices, slice_past_the_capacity, slice_of_a_nil_array, negative_size, length_above_the_capacity, negative_map_size, maps, nil_map, blank_fields, news, let_in, empty_variables}
+use Rattle.go_core.specs.RowsMemory.{structs_are_copied, pointer_to_a_field, nil_pointer, two_phases, swap, index_in_the_second_phase, negative_index, index_at_the_length, append_in_place, append_anew, with_capacity, copy_overlaps, full_slices, slice_past_the_capacity, slice_of_a_nil_array, negative_size, length_above_the_capacity, negative_map_size, maps, nil_map, blank_fields, news, let_in, empty_variables, tags_converted}
 use Rattle.go_core.proofs.meaning.rows_memory.Goals as goal
 
 a_struct_is_copied_holds : outcome structs_are_copied [] ≡ prints (codes "0 2 9 2\n")
@@ -106,6 +106,10 @@ empty_variables_differ_holds : outcome empty_variables [] ≡ prints (codes "fal
 unfolding digits
 empty_variables_differ_holds = refl
 
+tags_are_ignored_holds : outcome tags_converted [] ≡ prints (codes "4 8 8 8 8\n")
+unfolding digits
+tags_are_ignored_holds = refl
+
 pub returns : goal.returns
 returns c = record {
   rows = record {
@@ -134,5 +138,6 @@ returns c = record {
     pointers_are_bases = pointers_are_bases_holds;
     values_get_variables = values_get_variables_holds;
     empty_variables_differ = empty_variables_differ_holds;
+    tags_are_ignored = tags_are_ignored_holds;
   };
 }

@@ -2,4 +2,4 @@ use Rattle.go_core.proofs.SampleSound as sample
 use Rattle.go_core.proofs.typing.sample.Goals as goal
 
 pub returns : goal.returns
-returns c = record { sound = sample.sound }
+returns c = record { sound = sample.sound; tags = sample.tags_are_ignored }
