@@ -16,7 +16,7 @@ use Rattle.js_code.specs.declared.part.Part.TheVariants.{More}
 use Rattle.js_simple.specs.declared.list.Cell.{Cell}
 use Rattle.js_simple.specs.declared.state.Context.{Context}
 use Rattle.js_simple.specs.Simple.{is_simple, are_simple, IsSomeCode, IsSimpleAt, AreSimpleAt}
-use Rattle.js_simple.specs.Cells.{exprs_of}
+use Rattle.js_simple.specs.Cells.{exprs_of, count_of}
 use Rattle.js_simple.specs.Seen.{Point, Stands}
 use Rattle.js_simple.specs.PartDoes.{eval_at, eval_all_at}
 use Rattle.js_simple.proofs.Parts.{left_of, right_of, exprs_is}
@@ -81,3 +81,11 @@ pub list_ends : (c : Context) (p : Point) (s : Stands c p) (i : ℕ) (done : Lis
     → (IsSomeCode c.code.now → exprs_at (trees_of c.code.now) i ≡ exprs_of (trees_of c.code.now) None)
     → eval_all_at c done i p w ≡ gives done w
 list_ends c p s i done w h = list_does c p s i None done w h ∙ ap (λ (vs : List Value). gives vs w) (append-nil done)
+
+-- one expression, and those that the list goes on with
+pub count_more : (ps : List Part) (i : ℕ) (cell : Cell) → exprs_at (trees_of ps) i ≡ exprs_of (trees_of ps) (Some cell)
+    → count_of (exprs_at (trees_of ps) i) ≡ suc (count_of (exprs_at (trees_of ps) cell.rest))
+count_more ps i cell h = ap count_of h
+
+pub count_none : (ps : List Part) (i : ℕ) → exprs_at (trees_of ps) i ≡ exprs_of (trees_of ps) None → count_of (exprs_at (trees_of ps) i) ≡ 0
+count_none ps i h = ap count_of h

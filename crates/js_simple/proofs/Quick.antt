@@ -1,5 +1,5 @@
 -- Numbers, truths and arrays that are found without values on the way.
-use Rattle.std.proofs.Common.{◌≡◌, refl, ap, sym, subst, ◌∙◌, ℕ, List, Option, Some, None, slice_get, option_map}
+use Rattle.std.proofs.Common.{◌≡◌, refl, ap, subst, ◌∙◌, ℕ, List, Option, Some, None, slice_get, option_map}
 use Rattle.std.specs.Prelude.{IfSome}
 use Rattle.js_tree.specs.declared.tree.BinaryOp.{BinaryOp}
 use Rattle.js_tree.specs.Operation.{binary_value, element}

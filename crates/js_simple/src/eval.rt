@@ -11,7 +11,7 @@ ghost use Rattle.js_code.specs.Held.{part_of};
 ghost use Rattle.js_simple.specs.Simple.{IsSimpleAt, AreSimpleAt, IsSimplePart};
 ghost use Rattle.js_simple.specs.PartDoes.{eval_at, eval_all_at, condition_at, eval_part, expr_in, exprs_in, value_does};
 
-use crate::list::cell_at;
+use crate::list::{cell_at, count};
 use crate::numbers::{truth_at, value_of_numbers};
 use crate::operate::{allocate, binary, given, number, pop, slot_value, truth_of};
 use crate::state::{Context, Halt};
@@ -359,7 +359,7 @@ fn array<'a>(
     requires simple { AreSimpleAt c.now.code.now items }
     ensures value { Does c.now value_of result objects.old.items objects.new.items (value_does (form.array 0 (exprs_in c.now items))) }
 {
-    let mut values = Vec::new(c.alloc);
+    let mut values = Vec::with_capacity(c.alloc, count(c.code, items))?;
     eval_onto(c, objects, depth, &mut values, items)?;
     allocate(objects, Object::Items(values))
 }

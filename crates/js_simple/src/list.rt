@@ -1,10 +1,10 @@
 //! Lists of expressions in the code, one cell after the other.
 
-ghost use Rattle.std.specs.Prelude.{◌≡◌, List, Some};
+ghost use Rattle.std.specs.Prelude.{◌≡◌, ◌≤◌, List, Some};
 ghost use Rattle.js_code.specs.Held.{part_of};
 ghost use Rattle.js_code.specs.Parts.{Tree, as_exprs, exprs_at, tree_of, trees_of};
 ghost use Rattle.js_simple.specs.Simple.{IsSomeCode};
-ghost use Rattle.js_simple.specs.Cells.{exprs_of};
+ghost use Rattle.js_simple.specs.Cells.{exprs_of, count_of};
 
 use js_code::{Code, Part};
 
@@ -33,4 +33,19 @@ pub fn cell_at(code: &Code, i: u32) -> Option<Cell>
         Some(part) => cell_of(part),
         None => None,
     }
+}
+
+/// How many expressions are in the list that a part of the code stands for, and never more.
+pub fn count(code: &Code, first: u32) -> usize
+    ensures at_most { IsSomeCode code.now → result ≤ count_of (exprs_at (trees_of code.now) first) }
+{
+    let mut list = first;
+    let parts = code.len();
+    for turn in 0..parts {
+        match cell_at(code, list) {
+            Some(cell) => list = cell.rest,
+            None => return turn,
+        }
+    }
+    parts
 }

@@ -206,10 +206,10 @@ pub choice-returns : goal.choice-returns
 choice-returns t c = record { value = λ p s. condition_false _ _ _ _ _ _ _ _ _ (c.in_ok-condition.ensures.value p s) c.if-branch.false (c.eval-2.ensures.value p s) }
 
 pub array-returns-in_err-eval_onto : goal.array-returns-in_err-eval_onto
-array-returns-in_err-eval_onto t c = record { value = λ p s. stopped _ c.from_residual.result _ _ _ c.from_residual.ensures.1 (stops_onto _ _ _ _ _ (c.in_err-eval_onto.ensures.value p s)) }
+array-returns-in_err-eval_onto t c = record { value = λ p s. stopped _ c.from_residual-in_err-eval_onto.result _ _ _ c.from_residual-in_err-eval_onto.ensures.1 (stops_onto _ _ _ _ _ (c.in_err-eval_onto.ensures.value p s)) }
 
 pub array-returns : goal.array-returns
-array-returns t c = record { value = λ p s. value_goes _ _ _ _ _ _ _ (after_none _ _ _ _ (ap values_of c.new-values.ensures.items) (c.in_ok-eval_onto.ensures.value p s)) (c.allocate.ensures.value p.world) }
+array-returns t c = record { value = λ p s. value_goes _ _ _ _ _ _ _ (after_none _ _ _ _ (ap values_of c.in_ok-values.ensures.items) (c.in_ok-eval_onto.ensures.value p s)) (c.allocate.ensures.value p.world) }
 
 pub condition-returns-in-Some : goal.condition-returns-in-Some
 condition-returns-in-Some t c = record { value = λ p s. let e = rw c.as_slice.ensures.value at c.in-Some.ensures.value in ap (λ o. and_then o (truth_of c.args.at)) (e p s) }

@@ -1,4 +1,4 @@
-use Rattle.std.proofs.Common.{◌≡◌, ◌∙◌, sym, ap}
+use Rattle.std.proofs.Common.{◌∙◌, sym, ap}
 use Rattle.js_tree.specs.Value as run
 use Rattle.js_slots.specs.declared.place.Place.TheVariants.{Local, Global}
 use Rattle.js_value.specs.Seen.{whole_of}

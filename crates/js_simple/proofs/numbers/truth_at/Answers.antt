@@ -1,4 +1,4 @@
-use Rattle.std.proofs.Common.{◌≡◌, ◌∙◌, sym}
+use Rattle.std.proofs.Common.{◌∙◌, sym}
 use Rattle.js_simple.proofs.Forms.{part_at}
 use Rattle.js_simple.proofs.Quick.{if_some, some_of}
 use Rattle.js_simple.proofs.numbers.truth_at.Goals as goal
