@@ -1,0 +1,3 @@
+mod Forms
+mod Printed
+mod Whole
