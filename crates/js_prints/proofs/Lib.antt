@@ -1,0 +1,4 @@
+mod Simulation
+mod Printing
+mod ListLemmas
+mod Views
