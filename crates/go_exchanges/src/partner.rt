@@ -3,7 +3,7 @@
 //! The Go Programming Language Specification (as of Go 1.17), "Channel types": on a channel without
 //! a buffer "communication succeeds only when both a sender and receiver are ready".
 
-ghost use Rattle.std.specs.Prelude.{◌≡◌, ◌∷◌, List, OnOk, length, true};
+ghost use Rattle.std.specs.Prelude.{◌≡◌, ◌≢◌, ◌∷◌, ℕ, List, OnOk, length, slice_get, true};
 ghost use Rattle.go_type.specs.Tree.{Ty};
 ghost use Rattle.go_core.specs.Communicate as defined;
 ghost use Rattle.go_core.specs.CoreTree.{CoreProgram};
@@ -58,6 +58,7 @@ fn resume<'p, 'a>(
 ) -> Result<(), Stop>
     ensures value { (ts : List Ty) → GoesOn ts result state.new (defined.resumed (seen.values_of ts given.entry) (after_of ts after.entry) partner (state_of ts state.old)) }
     ensures same { length state.new.goroutines.items ≡ length state.old.goroutines.items }
+    ensures others { (i : ℕ) → i ≢ partner → slice_get state.new.goroutines.items i ≡ slice_get state.old.goroutines.items i }
 {
     if partner >= state.goroutines.len() as u64 {
         return Err(Stop::NoStep);
@@ -76,6 +77,7 @@ fn partner_receives<'p, 'a>(
 ) -> Result<(), Stop>
     ensures value { (ts : List Ty) → GoesOn ts result state.new (defined.resumed (defined.received values (value_of ts x.now) true) (after_of ts after.entry) partner (state_of ts state.old)) }
     ensures same { length state.new.goroutines.items ≡ length state.old.goroutines.items }
+    ensures others { (i : ℕ) → i ≢ partner → slice_get state.new.goroutines.items i ≡ slice_get state.old.goroutines.items i }
 {
     let given = received_values(c, values, x, true)?;
     resume(state, partner, given, after)
@@ -92,6 +94,7 @@ pub fn to_partner<'p, 'a>(
 ) -> Result<(), Stop>
     ensures value { (ts : List Ty) (p : CoreProgram) → GoesOnBeside ts g result state.old state.new (λ s t. defined.to_partner p g (move_of free) name (value_of ts x.now) (defined.partner_offer g (move_of free) s) t) }
     ensures same { length state.new.goroutines.items ≡ length state.old.goroutines.items }
+    ensures own { slice_get state.new.goroutines.items g ≡ slice_get state.old.goroutines.items g }
 {
     match partner_offer(state, g, free) {
         Some(offer) => match offer {
@@ -127,6 +130,7 @@ pub fn from_partner<'p, 'a>(
 ) -> Result<&'a [Scalar<'a>], Stop>
     ensures value { (ts : List Ty) (p : CoreProgram) → Receives ts g result state.old state.new (λ n after f below u s. defined.from_partner p g (move_of free) name n after (defined.partner_offer g (move_of free) s) f below u s) }
     ensures same { length state.new.goroutines.items ≡ length state.old.goroutines.items }
+    ensures own { slice_get state.new.goroutines.items g ≡ slice_get state.old.goroutines.items g }
 {
     match partner_offer(state, g, free) {
         Some(offer) => match offer {

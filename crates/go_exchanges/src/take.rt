@@ -93,6 +93,7 @@ fn send_to_buffer<'p, 'a>(
     requires name { what.name < vec_len state.old.memory.channels }
     ensures value { (p : CoreProgram) (ts : List Ty) (g : ℕ) (free : core.Move) (c : cell.Channel) → let w = what.entry in slice_get (memory_of ts state.old.memory).channels w.name ≡ Some c → Moves p ts g result f.old f.new state.old state.new (λ x below s. Some (core.with_memory (cell.set_channel s.memory w.name (defined.with_sent p g free (value_of ts w.value.now) c)) (core.moved g (defined.done_with [] (after_of ts w.after) x ∷ below) (1 + w.units) s))) }
     ensures same { length state.new.goroutines.items ≡ length state.old.goroutines.items }
+    ensures own { (i : ℕ) → slice_get state.new.goroutines.items i ≡ slice_get state.old.goroutines.items i }
 {
     put(&mut state.memory, what.name, what.value)?;
     let units = finish(f, Values::Nothing, what.after, what.units)?;
@@ -110,6 +111,7 @@ fn send_to_partner<'p, 'a>(
 ) -> Result<u64, Stop>
     ensures value { (p : CoreProgram) (ts : List Ty) → let w = what.entry in Moves p ts g result f.old f.new state.old state.new (λ x below s. defined.to_partner p g (move_of free) w.name (value_of ts w.value.now) (defined.partner_offer g (move_of free) s) (core.moved g (defined.done_with [] (after_of ts w.after) x ∷ below) (1 + w.units) s)) }
     ensures same { length state.new.goroutines.items ≡ length state.old.goroutines.items }
+    ensures own { slice_get state.new.goroutines.items g ≡ slice_get state.old.goroutines.items g }
 {
     to_partner(c, state, g, free, what.name, what.value)?;
     let units = finish(f, Values::Nothing, what.after, what.units)?;
@@ -127,6 +129,7 @@ pub fn send<'p, 'a>(
 ) -> Result<u64, Stop>
     ensures value { (p : CoreProgram) (ts : List Ty) → let w = what.entry in Moves p ts g result f.old f.new state.old state.new (λ x below s. defined.offer_taken p g (move_of free) (Some (core.sending (Some w.name) (value_of ts w.value.now) w.units (after_of ts w.after))) x below s) }
     ensures same { length state.new.goroutines.items ≡ length state.old.goroutines.items }
+    ensures own { slice_get state.new.goroutines.items g ≡ slice_get state.old.goroutines.items g }
 {
     if what.name >= state.memory.channels.len() as u64 {
         return Err(Stop::NoStep);
@@ -180,6 +183,7 @@ fn receive_empty<'p, 'a>(
     requires name { what.name < vec_len state.old.memory.channels }
     ensures value { (p : CoreProgram) (ts : List Ty) (k : cell.Channel) → let w = what.entry in slice_get (memory_of ts state.old.memory).channels w.name ≡ Some k → Moves p ts g result f.old f.new state.old state.new (λ x below s. defined.taken_from p g (move_of free) [] w.name (value_of ts w.zero.now) w.units w.values (after_of ts w.after) k x below s) }
     ensures same { length state.new.goroutines.items ≡ length state.old.goroutines.items }
+    ensures own { slice_get state.new.goroutines.items g ≡ slice_get state.old.goroutines.items g }
 {
     let channel = &state.memory.channels[what.name as usize];
     if channel.closed {
@@ -206,6 +210,7 @@ pub fn receive<'p, 'a>(
 ) -> Result<u64, Stop>
     ensures value { (p : CoreProgram) (ts : List Ty) → let w = what.entry in Moves p ts g result f.old f.new state.old state.new (λ x below s. defined.offer_taken p g (move_of free) (Some (core.receiving (Some w.name) (value_of ts w.zero.now) w.units w.values (after_of ts w.after))) x below s) }
     ensures same { length state.new.goroutines.items ≡ length state.old.goroutines.items }
+    ensures own { slice_get state.new.goroutines.items g ≡ slice_get state.old.goroutines.items g }
 {
     if what.name >= state.memory.channels.len() as u64 {
         return Err(Stop::NoStep);
@@ -229,6 +234,7 @@ pub fn take_offer<'p, 'a>(
 ) -> Result<u64, Stop>
     ensures value { (p : CoreProgram) (ts : List Ty) → Moves p ts g result f.old f.new state.old state.new (λ x below s. defined.offer_taken p g (move_of free) (Some (offer_of ts offer.entry)) x below s) }
     ensures same { length state.new.goroutines.items ≡ length state.old.goroutines.items }
+    ensures own { slice_get state.new.goroutines.items g ≡ slice_get state.old.goroutines.items g }
 {
     match offer {
         Offer::Sending {

@@ -1,4 +1,4 @@
-use Rattle.std.proofs.Common.{◌∙◌, ap, sym, ◌∷◌, ◌+◌, true}
+use Rattle.std.proofs.Common.{◌∙◌, ap, sym, [], ◌∷◌, ◌+◌, true}
 use Rattle.std.specs.Prelude.{Option, Some, None, option_map}
 use Rattle.go_core.specs.Communicate.{done_with, received}
 use Rattle.go_core.specs.Goroutine as defined
@@ -6,6 +6,7 @@ use Rattle.go_core.specs.Goroutine.{moved, sending, receiving}
 use Rattle.go_values.specs.Seen.{value_of}
 use Rattle.go_state.specs.Seen.{after_of, move_of, offer_of, state_of}
 use Rattle.go_state.specs.declared.state.Offer.{Offer}
+use Rattle.go_exchanges.proofs.FramesLemmas.{partner_other}
 use Rattle.go_exchanges.proofs.PartnerLemmas.{from_found, from_sender, from_another, from_stops}
 use Rattle.go_exchanges.proofs.StopLemmas.{receives_stopped}
 use Rattle.go_exchanges.proofs.partner.from_partner.Goals as goal
@@ -37,3 +38,13 @@ returns-in-Receiving-clause-value c = λ ts p fs n after f below u.
 pub returns-in-None-clause-value : goal.returns-in-None-clause-value
 returns-in-None-clause-value c = λ ts p fs n after f below u.
     from_found p c.args.g (move_of c.args.free) c.args.name fs n after f below u (state_of ts c.args.state.now) None (sym (c.partner_offer.ensures.value ts) ∙ ap (λ (o : Option Offer). option_map (offer_of ts) o) c.in-None.is)
+
+pub returns-in_err-resume-in-Sending-clause-own : goal.returns-in_err-resume-in-Sending-clause-own
+returns-in_err-resume-in-Sending-clause-own c =
+    let offered = sym (c.partner_offer.ensures.value []) ∙ ap (λ (o : Option Offer). option_map (offer_of []) o) (c.in-Some.is ∙ ap (λ (o : Offer). Some o) c.in-Sending.is) in
+    c.in_err-resume-in-Sending.ensures.others c.args.g (partner_other c.args.g (move_of c.args.free) (state_of [] c.args.state.now) (sending c.in-Sending.channel (value_of [] c.in-Sending.value.now) c.in-Sending.units (after_of [] c.in-Sending.after)) offered)
+
+pub returns-then-same_name-clause-own : goal.returns-then-same_name-clause-own
+returns-then-same_name-clause-own c =
+    let offered = sym (c.partner_offer.ensures.value []) ∙ ap (λ (o : Option Offer). option_map (offer_of []) o) (c.in-Some.is ∙ ap (λ (o : Offer). Some o) c.in-Sending.is) in
+    c.in_ok-resume-in-Sending.ensures.others c.args.g (partner_other c.args.g (move_of c.args.free) (state_of [] c.args.state.now) (sending c.in-Sending.channel (value_of [] c.in-Sending.value.now) c.in-Sending.units (after_of [] c.in-Sending.after)) offered)

@@ -1,9 +1,10 @@
-use Rattle.std.proofs.Common.{◌<◌, ap, sym, arith, List, length}
+use Rattle.std.proofs.Common.{◌<◌, refl, ap, sym, arith, List, length}
 use Rattle.std.proofs.lemmas.List.{map-set}
 use Rattle.go_core.specs.Goroutine as defined
 use Rattle.go_operators.specs.Seen as seen
 use Rattle.go_tasks.proofs.ListsLemmas.{get_here}
 use Rattle.go_state.specs.Seen.{after_of, goroutine_of, state_of}
+use Rattle.go_exchanges.proofs.PlacesLemmas.{get_other}
 use Rattle.go_exchanges.proofs.StopLemmas.{resumed_goes}
 use Rattle.go_exchanges.proofs.partner.resume.Goals as goal
 
@@ -17,3 +18,9 @@ returns-clause-value c = λ ts.
     (get_here (goroutine_of ts) gs c.args.partner c.index_mut.result.now h c.index_mut.ensures.value)
     (ap (λ (xs : List defined.Goroutine). let t : defined.State = record (state_of ts s) { goroutines = xs } in t) (sym (map-set (goroutine_of ts) gs c.args.partner c.wake.new.goroutine)))
     (c.wake.ensures.value ts)
+
+pub returns-clause-others : goal.returns-clause-others
+returns-clause-others c = λ i d. get_other c.args.state.now.goroutines.items c.args.partner i c.wake.new.goroutine (λ e. d (sym e))
+
+pub returns-then-partner-len-clause-others : goal.returns-then-partner-len-clause-others
+returns-then-partner-len-clause-others c = λ i d. refl
