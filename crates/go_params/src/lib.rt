@@ -1,0 +1,11 @@
+//! Parameters and results: what is told of their names, and each as a variable of its function's scope.
+//!
+//! The Go Programming Language Specification (as of Go 1.17), "Function types", "Function
+//! declarations". The definitions stand in go_packages (`specs/Signature.antt`).
+#![tactic(auto)]
+
+pub mod bound;
+pub mod names;
+
+pub use bound::bind_all;
+pub use names::names_told;
