@@ -3,7 +3,7 @@
 //! The Go Programming Language Specification (as of Go 1.17), "Select statements". Own: of several
 //! ready ways the choice is the next number, modulo how many they are; one takes no number.
 
-ghost use Rattle.std.specs.Prelude.{◌≡◌, ◌<◌, ◌+◌, ℕ, [], List, IfOk, OnOk, length, map, get_or};
+ghost use Rattle.std.specs.Prelude.{◌≡◌, ◌<◌, ◌+◌, ℕ, [], List, IfOk, OnOk, length, map, get_or, slice_get};
 ghost use Rattle.go_type.specs.Tree.{Ty};
 ghost use Rattle.go_core.specs.Communicate as defined;
 ghost use Rattle.go_core.specs.CoreTree.{CoreProgram};
@@ -124,6 +124,7 @@ fn way_taken<'p, 'a>(
 ) -> Result<u64, Stop>
     ensures value { (p : CoreProgram) (ts : List Ty) → Moves p ts g result f.old f.new state.old state.new (λ x below s. defined.way_taken p g (move_of free) way (map (offer_of ts) offers.now) x below s) }
     ensures same { length state.new.goroutines.items ≡ length state.old.goroutines.items }
+    ensures own { slice_get state.new.goroutines.items g ≡ slice_get state.old.goroutines.items g }
 {
     if way >= offers.len() as u64 {
         return Err(Stop::NoStep);
@@ -145,6 +146,7 @@ fn some_ready<'p, 'a>(
     requires some { 0 < length ready.now }
     ensures value { (p : CoreProgram) (ts : List Ty) → let w = ways.now in Talks p ts g result f.old f.new state.old state.new (λ x below s. defined.reached p g (move_of free) choices.now (default_of ts w.default) w.units (map (offer_of ts) w.offers.items) ready.now x below s) }
     ensures same { length state.new.goroutines.items ≡ length state.old.goroutines.items }
+    ensures own { slice_get state.new.goroutines.items g ≡ slice_get state.old.goroutines.items g }
 {
     let way = choose(state, choices, ready, ways.units)?;
     let units = way_taken(c, state, g, free, way, ways.offers.as_slice(), f)?;
@@ -163,6 +165,7 @@ pub fn reach<'p, 'a>(
 ) -> Result<Talked<'p, 'a>, Stop>
     ensures value { (p : CoreProgram) (ts : List Ty) → let w = ways.entry in Talks p ts g result f.old f.new state.old state.new (λ x below s. defined.reach p g (move_of free) choices.now (default_of ts w.default) w.units (map (offer_of ts) w.offers.items) x below s) }
     ensures same { length state.new.goroutines.items ≡ length state.old.goroutines.items }
+    ensures own { slice_get state.new.goroutines.items g ≡ slice_get state.old.goroutines.items g }
 {
     let ready = ready_ways(c.alloc, state, g, ways.offers.as_slice())?;
     if ready.is_empty() {
