@@ -38,6 +38,7 @@ fn close_named<'p, 'a>(
 ) -> Result<Talked<'p, 'a>, Stop>
     ensures value { (p : CoreProgram) (ts : List Ty) (free : core.Move) → Talks p ts g result f.now f.now state.old state.new (λ x below s. defined.close_named p g free (Some name) x below s) }
     ensures same { length state.new.goroutines.items ≡ length state.old.goroutines.items }
+    ensures own { slice_get state.new.goroutines.items g ≡ slice_get state.old.goroutines.items g }
 {
     if name >= state.memory.channels.len() as u64 {
         return Err(Stop::NoStep);
@@ -62,6 +63,7 @@ fn close_channel<'p, 'a>(
 ) -> Result<Talked<'p, 'a>, Stop>
     ensures value { (p : CoreProgram) (ts : List Ty) (free : core.Move) → Talks p ts g result f.now f.now state.old state.new (λ x below s. defined.close_named p g free channel x below s) }
     ensures same { length state.new.goroutines.items ≡ length state.old.goroutines.items }
+    ensures own { slice_get state.new.goroutines.items g ≡ slice_get state.old.goroutines.items g }
 {
     match channel {
         Some(name) => close_named(state, g, name, f),
@@ -80,6 +82,7 @@ pub fn close_step<'p, 'a>(
 ) -> Result<Talked<'p, 'a>, Stop>
     ensures value { (p : CoreProgram) (ts : List Ty) (free : core.Move) → Talks p ts g result f.old f.new state.old state.new (λ x below s. defined.close_step p g free x below s) }
     ensures same { length state.new.goroutines.items ≡ length state.old.goroutines.items }
+    ensures own { slice_get state.new.goroutines.items g ≡ slice_get state.old.goroutines.items g }
 {
     let x = operand(f)?;
     match named_channel(x) {

@@ -3,7 +3,7 @@
 //! The Go Programming Language Specification (as of Go 1.17), "Send statements", "Receive operator",
 //! "Select statements".
 
-ghost use Rattle.std.specs.Prelude.{◌≡◌, ℕ, [], ◌∷◌, List, None, IfOk, length};
+ghost use Rattle.std.specs.Prelude.{◌≡◌, ℕ, [], ◌∷◌, List, None, IfOk, length, slice_get};
 ghost use Rattle.go_type.specs.Levels.{tree_of};
 ghost use Rattle.go_type.specs.Tree.{Ty};
 ghost use Rattle.go_type.specs.Table.{places, names};
@@ -55,6 +55,7 @@ pub fn send_step<'p, 'a>(
 ) -> Result<Talked<'p, 'a>, Stop>
     ensures value { (p : CoreProgram) → p.names ≡ names c.now.table.now → let ts = places c.now.table.now in Talks p ts g result f.old f.new state.old state.new (λ x below s. defined.send_step p g (move_of free) choices.now (tree_of ts t) x below s) }
     ensures same { length state.new.goroutines.items ≡ length state.old.goroutines.items }
+    ensures own { slice_get state.new.goroutines.items g ≡ slice_get state.old.goroutines.items g }
 {
     let xs = operand_pair(f)?;
     match named_channel(xs.left) {
@@ -87,6 +88,7 @@ pub fn receive_step<'p, 'a>(
 ) -> Result<Talked<'p, 'a>, Stop>
     ensures value { (p : CoreProgram) → p.names ≡ names c.now.table.now → let ts = places c.now.table.now in Talks p ts g result f.old f.new state.old state.new (λ x below s. defined.receive_step p g (move_of free) choices.now (tree_of ts t) ok x below s) }
     ensures same { length state.new.goroutines.items ≡ length state.old.goroutines.items }
+    ensures own { slice_get state.new.goroutines.items g ≡ slice_get state.old.goroutines.items g }
 {
     let x = operand(f)?;
     match named_channel(x) {
@@ -118,6 +120,7 @@ pub fn select_step<'p, 'a>(
 ) -> Result<Talked<'p, 'a>, Stop>
     ensures value { (p : CoreProgram) → p.names ≡ names c.now.table.now → let ts = places c.now.table.now in let w = what.entry in Talks p ts g result f.old f.new state.old state.new (λ x below s. defined.select_step p g (move_of free) choices.now (cases_of (cases_view ts w.cases.now)) w.count w.has_default (stmts_view ts w.default.now) x below s) }
     ensures same { length state.new.goroutines.items ≡ length state.old.goroutines.items }
+    ensures own { slice_get state.new.goroutines.items g ≡ slice_get state.old.goroutines.items g }
 {
     let vs = operands(f, what.count)?;
     let offers = offers_from(c, what.cases, vs.as_slice())?;
