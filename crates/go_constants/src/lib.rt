@@ -1,0 +1,13 @@
+//! Types and constant values of declarations, each typed once, with all that is told of it.
+//!
+//! The Go Programming Language Specification (as of Go 1.17), "Constant declarations", "Type
+//! declarations". The definitions stand in go_statements (`specs/Declare.antt`,
+//! `specs/Expressions.antt`).
+#![tactic(auto)]
+
+pub mod constant;
+pub mod told;
+pub mod types;
+
+pub use constant::{Constant, constant_value};
+pub use types::{FoundType, Spec, SpecType, spec_type, type_found, type_of_spec};
