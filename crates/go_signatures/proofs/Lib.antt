@@ -1,0 +1,4 @@
+mod Steps
+mod ParamLemmas
+mod KnownLemmas
+mod SigLemmas
