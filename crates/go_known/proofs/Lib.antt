@@ -1,0 +1,7 @@
+mod Steps
+mod NumberLemmas
+mod OutcomeLemmas
+mod TypeLemmas
+mod ConstantLemmas
+mod PassLemmas
+mod DoneLemmas

@@ -1,0 +1,16 @@
+//! What the names of a package stand for.
+//!
+//! The Go Programming Language Specification (as of Go 1.17), "Declarations and scope", "Constant
+//! declarations", "Iota", "Type declarations". The definitions stand in go_packages
+//! (`specs/Known.antt`, `specs/Cycles.antt`).
+#![tactic(auto)]
+
+pub mod constants;
+pub mod kinds;
+pub mod names;
+pub mod numbers;
+pub mod pass;
+pub mod settled;
+pub mod types;
+
+pub use names::known;
