@@ -1,0 +1,7 @@
+pub mod BareLemmas
+pub mod LeftLemmas
+mod UseLemmas
+mod AssignLemmas
+mod SeveralLemmas
+pub mod SideLemmas
+mod TopLemmas

@@ -1,0 +1,2 @@
+pub mod LeftView
+pub mod Assigning

@@ -1,0 +1,43 @@
+//! Variables that left sides use.
+//!
+//! Own: a variable that is the whole of a left side isn't used there.
+
+ghost use Rattle.std.specs.Prelude.{◌≡◌, List, OnOk, map};
+ghost use Rattle.go_type.specs.Tree.{Ty};
+ghost use Rattle.go_syntax.specs.View.{expr_view, exprs_of};
+ghost use Rattle.go_statements.specs.Assign as go;
+ghost use Rattle.go_walk.specs.WalkView.{walk_of};
+ghost use Rattle.go_effects.specs.Moves.{Moves};
+ghost use Rattle.go_assign.specs.LeftView.{left_used};
+
+use crate::bare::is_name;
+use gj_base::NoMemory;
+use go_syntax::tree::Expr;
+use go_walk::Walk;
+use go_walk::uses::use_expr;
+
+#[tactic(auto, using(crate::proofs::UseLemmas::name_unused, crate::proofs::UseLemmas::other_used))]
+fn use_left(walk: &mut Walk, e: &Expr) -> Result<(), NoMemory>
+    ensures value { OnOk result ((ts : List Ty) → walk_of ts walk.new ≡ left_used (expr_view e.now) (walk_of ts walk.old)) }
+    ensures env { walk.new.env ≡ walk.old.env }
+{
+    if is_name(e) {
+        return Ok(());
+    }
+    match use_expr(walk, e) {
+        Ok(()) => Ok(()),
+        Err(error) => Err(error),
+    }
+}
+
+/// The variables that left sides use.
+#[tactic(auto, using(crate::proofs::UseLemmas::uses_step, crate::proofs::UseLemmas::uses_end, go_effects::proofs::WalkLemmas::moves_from))]
+pub fn left_uses(walk: &mut Walk, es: &[Expr]) -> Result<(), NoMemory>
+    ensures moves { OnOk result (Moves (go.left_uses (exprs_of (map expr_view es.now))) walk.old walk.new) }
+    ensures env { OnOk result (walk.new.env ≡ walk.old.env) }
+{
+    for e in es {
+        use_left(walk, e)?;
+    }
+    Ok(())
+}
