@@ -1,9 +1,8 @@
 -- What is stored and told of left sides and values, one after the other.
-use Rattle.std.proofs.Common.{arith, ◌≡◌, ◌<◌, ◌≤◌, ◌+◌, ℕ, ◌∙◌, refl, sym, ap, List, [], ◌∷◌, ◌++◌, append_assoc, length, map, Bool, true, false, Option, Some, None}
-use Rattle.std.specs.Prelude.{if◌then◌else◌}
+use Rattle.std.proofs.Common.{◌≡◌, ◌∙◌, refl, sym, ap, List, [], ◌∷◌, ◌++◌, append_assoc, map, Bool}
 use Rattle.std.proofs.lemmas.List.{append-nil, map-append}
 use Rattle.gj_base.specs.declared.place.Place.{Place}
-use Rattle.go_type.specs.Tree.{Ty, Tys}
+use Rattle.go_type.specs.Tree.{Ty}
 use Rattle.go_type.specs.Named.{NamedTy}
 use Rattle.go_type.specs.declared.table.TypeTable.{TypeTable}
 use Rattle.go_core.specs.CoreTree as core

@@ -5,8 +5,6 @@ use Rattle.std.proofs.Math.Seq.{drop-cons}
 use Rattle.go_syntax.specs.Tree as t
 use Rattle.go_syntax.specs.View.{expr_view}
 use Rattle.go_syntax.specs.declared.tree.Expr.{Expr}
-use Rattle.gj_base.specs.declared.place.Place.{Place}
-use Rattle.go_syntax.specs.declared.tree.Name.{Name}
 use Rattle.go_type.specs.Tree.{Ty}
 use Rattle.go_type.specs.Levels.{tree_of}
 use Rattle.go_type.specs.Named.{NamedTy}
@@ -16,10 +14,9 @@ use Rattle.go_core.specs.CoreTree as core
 use Rattle.go_core.specs.CoreView.{target_view}
 use Rattle.go_core.specs.declared.statement.Target as target
 use Rattle.go_type.specs.declared.types.TypeId.{TypeId}
-use Rattle.go_typing.specs.Env.{Bind, Decl, variable, global, constant, type_name, function, imported, built_in, nil_value, refused, unknown, lookup, is_blank}
-use Rattle.go_typing.specs.Scopes as scopes
+use Rattle.go_typing.specs.Env.{Bind, Decl, variable, global, constant, type_name, function, imported, built_in, nil_value, refused, unknown, lookup}
 use Rattle.go_scopes.specs.declared.env.Env.{Env}
-use Rattle.go_scopes.specs.EnvView.{table_of, env_of}
+use Rattle.go_scopes.specs.EnvView.{table_of}
 use Rattle.go_statements.specs.Walk.{Walk}
 use Rattle.go_statements.specs.Assign.{Left, left_place, left_declared, left_of}
 use Rattle.go_typed.specs.Raw.{Grows}

@@ -1,11 +1,10 @@
 -- Left sides that take the several values of a call, one after the other.
 use Rattle.std.proofs.Common.{arith, ◌≡◌, ◌<◌, ◌≤◌, ◌+◌, ℕ, zero, suc, ◌∙◌, refl, sym, ap, List, [], ◌∷◌, ◌++◌, append_assoc, length, map, drop, get_or, Bool, true, false, ◌&&◌}
 use Rattle.std.specs.Prelude.{if◌then◌else◌}
-use Rattle.std.specs.List.{AllByRecursion}
 use Rattle.std.proofs.lemmas.List.{append-nil}
 use Rattle.std.proofs.Math.Seq.{drop-cons}
 use Rattle.gj_base.specs.declared.place.Place.{Place}
-use Rattle.go_type.specs.Tree.{Ty, Tys, no_tys, more_tys}
+use Rattle.go_type.specs.Tree.{Ty, Tys, no_tys}
 use Rattle.go_type.specs.Levels.{tree_of, trees_of, IdsBelow}
 use Rattle.go_type.specs.declared.types.TypeId.{TypeId}
 use Rattle.go_type.specs.declared.table.TypeTable.{TypeTable}

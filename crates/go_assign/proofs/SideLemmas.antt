@@ -1,12 +1,12 @@
 -- What comes of left sides and values, as the definitions say it of the expressions.
-use Rattle.std.proofs.Common.{◌≡◌, ℕ, ◌∙◌, refl, sym, ap, List, [], ◌∷◌, ◌++◌, map, Option, Some, None, Bool, true, false, ◌&&◌}
+use Rattle.std.proofs.Common.{◌≡◌, ℕ, ◌∙◌, refl, sym, ap, List, [], ◌∷◌, ◌++◌, Option, Some, None, Bool, true, false, ◌&&◌}
 use Rattle.std.specs.Prelude.{if◌then◌else◌}
 use Rattle.gj_base.specs.declared.place.Place.{Place}
 use Rattle.go_syntax.specs.Tree as t
 use Rattle.go_syntax.specs.Tree.{Expr, NameExpr, IntExpr, RuneExpr, StrExpr, ParenExpr, UnaryExpr, BinaryExpr, SelectExpr, IndexExpr, SliceExpr, AssertExpr, CallExpr, LiteralExpr, FuncExpr, ArrayType, SliceType, StructType, FuncType, InterfaceType, MapType, ChanType}
 use Rattle.go_syntax.specs.View as view
 use Rattle.go_syntax.specs.declared.tree.Name.{Name}
-use Rattle.go_type.specs.Tree.{Ty, Tys, no_tys, more_tys}
+use Rattle.go_type.specs.Tree.{Tys, no_tys, more_tys}
 use Rattle.go_type.specs.Named.{NamedTy}
 use Rattle.go_core.specs.CoreTree as core
 use Rattle.go_core.specs.CoreTree.{Var, Target}
@@ -16,13 +16,13 @@ use Rattle.go_typing.specs.Answer.{Flaw, flaw}
 use Rattle.go_typing.specs.Typing.{place_of}
 use Rattle.go_statements.specs.Walk.{Walk, Did}
 use Rattle.go_statements.specs.Expressions.{Valued, answer_in, several_types, core_of}
-use Rattle.go_statements.specs.Assign.{Left, left_blank, left_place, left_wrong, left_flaws, left_declared, left_of, value_for, target_of, takes, Assigned, one_more, assigned_each, count_of, all_take, same_number, lefts_flaws, targets_of, all_in_flaws, all_typed, where_typed, miscounted, call_assigned, several_right, assign_by, assign_did}
-use Rattle.go_typed.specs.Raw.{Raw, raw_of, raws_of}
-use Rattle.go_valued.specs.Settled.{all_known, all_told, several_in}
+use Rattle.go_statements.specs.Assign.{Left, left_blank, left_place, left_wrong, left_flaws, left_declared, left_of, value_for, target_of, takes, Assigned, one_more, assigned_each, count_of, all_take, same_number, lefts_flaws, targets_of, all_typed, where_typed, miscounted, assign_by, assign_did}
+use Rattle.go_typed.specs.Raw.{raw_of, raws_of}
+use Rattle.go_valued.specs.Settled.{all_told}
 use Rattle.go_effects.proofs.RawLemmas.{typed_all, told_all}
 use Rattle.go_effects.proofs.OutcomeLemmas.{made}
 use Rattle.go_assign.specs.LeftView.{lefts_of, fitted}
-use Rattle.go_assign.specs.Assigning.{paired, pair_targets, pair_values, pair_flaws, all_flaws, all_targets, each_takes, as_many, as_many_values, Gives, not_as_many, store_gives, each_gives, call_gives, assigned_by, assigned}
+use Rattle.go_assign.specs.Assigning.{paired, pair_targets, pair_values, pair_flaws, all_flaws, all_targets, each_takes, as_many, as_many_values, Gives, not_as_many, each_gives, call_gives, assigned_by, assigned}
 
 -- ---- of the walk only names and scopes are asked
 

@@ -1,39 +1,37 @@
 -- An assignment by what comes of its sides.
-use Rattle.std.proofs.Common.{arith, ◌≡◌, ◌<◌, ◌≤◌, ◌+◌, ℕ, zero, suc, ◌∙◌, refl, sym, ap, subst, List, [], ◌∷◌, ◌++◌, length, map, Option, Some, None, Bool, true, false}
+use Rattle.std.proofs.Common.{arith, ◌≡◌, ◌+◌, suc, ◌∙◌, refl, sym, ap, subst, List, [], ◌∷◌, ◌++◌, length, map, Some, None, Bool, true, false}
 use Rattle.std.specs.Prelude.{if◌then◌else◌}
 use Rattle.std.specs.List.{AllByRecursion}
 use Rattle.std.proofs.lemmas.List.{append-nil}
 use Rattle.gj_base.specs.declared.place.Place.{Place}
 use Rattle.go_syntax.specs.Tree as t
 use Rattle.go_syntax.specs.View.{exprs_of}
-use Rattle.go_type.specs.Tree.{Ty, Tys, no_tys, more_tys}
+use Rattle.go_type.specs.Tree.{Ty, Tys}
 use Rattle.go_type.specs.Levels.{trees_of}
 use Rattle.go_type.specs.Named.{NamedTy}
-use Rattle.go_type.specs.Table.{places, size}
+use Rattle.go_type.specs.Table.{size}
 use Rattle.go_type.specs.declared.types.TypeId.{TypeId}
 use Rattle.go_type.specs.declared.table.TypeTable.{TypeTable}
 use Rattle.go_core.specs.CoreTree as core
 use Rattle.go_core.specs.CoreView.{stmt_view, var_of}
 use Rattle.go_core.specs.declared.statement.CoreStmt.{CoreStmt}
-use Rattle.go_typing.specs.Answer.{Flaw, flaw}
-use Rattle.go_typing.specs.Env.{Bind}
 use Rattle.go_answers.specs.AnswerView.{flaw_view}
 use Rattle.go_answers.specs.declared.answer.Flaw as code
 use Rattle.go_scopes.specs.declared.env.Env.{Env}
-use Rattle.go_scopes.specs.EnvView.{table_of, env_of}
+use Rattle.go_scopes.specs.EnvView.{table_of}
 use Rattle.go_callee.specs.Words.{types_of, names_of, scopes_of}
 use Rattle.go_statements.specs.Walk as go
 use Rattle.go_statements.specs.Walk.{Did, uses_all}
 use Rattle.go_statements.specs.Assign.{Left, left_uses, assign, assign_did}
-use Rattle.go_walk.specs.WalkView.{walk_of, walk_outside, Keeps}
+use Rattle.go_walk.specs.WalkView.{walk_of, walk_outside}
 use Rattle.go_walk.specs.declared.walk.Walk.{Walk}
 use Rattle.go_typed.specs.declared.raw.Raw as raw
 use Rattle.go_typed.specs.Raw.{Raw, raw_view, raws_of, raws_after}
 use Rattle.go_valued.specs.Outcome.{Does, Adds}
 use Rattle.go_valued.specs.Settled.{several_in}
 use Rattle.go_effects.specs.Moves.{Moves, Stays}
-use Rattle.go_effects.proofs.WalkLemmas.{names_grown, scopes_grown, raws_grown, moves_stays, moves_on}
-use Rattle.go_effects.proofs.OutcomeLemmas.{does_made, made}
+use Rattle.go_effects.proofs.WalkLemmas.{names_grown, raws_grown, moves_stays, moves_on}
+use Rattle.go_effects.proofs.OutcomeLemmas.{does_made}
 use Rattle.go_assign.specs.declared.left.Left as left
 use Rattle.go_assign.specs.LeftView.{left_view, lefts_after, lefts_of, LeftBelow}
 use Rattle.go_assign.specs.Assigning.{paired, as_many, as_many_values, Gives, not_as_many, each_gives, call_gives, assigned_by, assigned}
