@@ -12,7 +12,7 @@ use Rattle.go_type.specs.Underlying.{underlying}
 use Rattle.go_typing.specs.Env.{Decl}
 use Rattle.go_typing.specs.Answer.{Flaw, flaw, Answer, value, pending, type_, package_, built_in, blank, does, wrong, untyped_part}
 use Rattle.go_typing.specs.Convert.{is_scalar}
-use Rattle.go_statements.specs.Expressions.{Valued, type_of, constant_of}
+use Rattle.go_statements.specs.Expressions.{type_of, constant_of}
 use Rattle.go_statements.specs.Declare.{of_type, constant_flaws, constant_decl}
 use Rattle.go_typed.specs.Raw.{Raw}
 use Rattle.go_constants.specs.SpecView.{is_tuple, decl_by, constant_at, unscalar, constant_raw}

@@ -1,5 +1,5 @@
 -- What is typed in an environment that grows, by the names and scopes before it.
-use Rattle.std.proofs.Common.{arith, ◌≡◌, ◌<◌, ◌∙◌, refl, sym, ap, List, [], ◌∷◌, Option, Some, None}
+use Rattle.std.proofs.Common.{arith, ◌≡◌, ◌<◌, ◌∙◌, refl, ap, List, [], ◌∷◌, Option, Some, None}
 use Rattle.std.specs.Prelude.{option_map}
 use Rattle.go_syntax.specs.Tree as t
 use Rattle.go_type.specs.Tree.{Ty, more_tys}
@@ -11,7 +11,7 @@ use Rattle.go_typing.specs.Env.{Decl}
 use Rattle.go_typing.specs.Scopes as scopes
 use Rattle.go_typing.specs.Scopes.{visible}
 use Rattle.go_scopes.specs.declared.env.Env.{Env}
-use Rattle.go_scopes.specs.EnvView.{table_of, env_of}
+use Rattle.go_scopes.specs.EnvView.{table_of}
 use Rattle.go_statements.specs.Walk.{Walk}
 use Rattle.go_statements.specs.Expressions.{Valued, type_in, type_of}
 use Rattle.go_statements.specs.Declare.{SpecType, no_type, of_type, lost_type, constant_decl, constant_value}

@@ -16,7 +16,7 @@ use Rattle.go_packages.specs.Items.{Item, items_of}
 use Rattle.go_packages.specs.Known.{Known, decl_of, nothing_known}
 use Rattle.go_packages.specs.Checked.{known_in}
 use Rattle.go_sets.specs.declared.numbers.NameMap.{NameMap}
-use Rattle.go_settled.specs.Rows.{Row, unset_rows, known_by, rows_after, IsDone, ReachesKnown}
+use Rattle.go_settled.specs.Rows.{Row, unset_rows, known_by, IsDone, ReachesKnown}
 use Rattle.go_settled.proofs.RowLemmas.{unset_known}
 use Rattle.go_binds.specs.Stands.{Stands, IsRow}
 use Rattle.go_known.specs.State.{Named, rows_of, CantBeTyped, Has, IsUntyped, Passed}

@@ -5,14 +5,13 @@ use Rattle.std.proofs.Math.Seq.{drop-cons}
 use Rattle.go_syntax.specs.Tree as t
 use Rattle.go_typing.specs.Env.{unknown}
 use Rattle.go_typing.specs.Scopes.{Env}
-use Rattle.go_packages.specs.Items.{Item, items_of}
+use Rattle.go_packages.specs.Items.{Item}
 use Rattle.go_packages.specs.Known.{Known, decl_of}
-use Rattle.go_sets.specs.Has.{number_of}
 use Rattle.go_sets.specs.declared.numbers.NameMap.{NameMap}
 use Rattle.go_needs.specs.Leads.{first_number}
 use Rattle.go_settled.specs.Rows.{Row, unset_rows, items_in, known_by, typed_at, one_typed, rows_after}
 use Rattle.go_settled.proofs.RowLemmas.{unset_items, typed_items}
-use Rattle.go_binds.specs.Stands.{Stands, IsRow, AreNumbers}
+use Rattle.go_binds.specs.Stands.{Stands, IsRow}
 use Rattle.go_known.specs.Before.{Before, Outcome}
 use Rattle.go_known.proofs.Steps.{past}
 use Rattle.go_known.specs.State.{Named, rows_of, Reached, CantBeTyped, Turned, Has, IsUntyped, Passed}

@@ -1,5 +1,5 @@
 -- The declaration of a named type that is typed.
-use Rattle.std.proofs.Common.{arith, ◌≡◌, ◌∙◌, ◌+◌, ◌<◌, ℕ, List, [], ◌++◌, length, refl, sym, subst, ap, true, false, Option, Some, None}
+use Rattle.std.proofs.Common.{arith, ◌≡◌, ◌∙◌, ◌+◌, ◌<◌, ℕ, List, [], ◌++◌, length, refl, sym, subst, ap, true, false, Option, Some}
 use Rattle.std.specs.Prelude.{option_map}
 use Rattle.go_syntax.specs.Tree as t
 use Rattle.go_syntax.specs.declared.tree.Name.{Name}
@@ -17,14 +17,14 @@ use Rattle.go_statements.specs.Walk.{Walk}
 use Rattle.go_statements.specs.Expressions.{type_in, type_of}
 use Rattle.go_walk.specs.WalkView.{walk_outside}
 use Rattle.go_known.proofs.OutcomeLemmas.{is_outside}
-use Rattle.go_typing.specs.Env.{Decl, unknown, type_name}
+use Rattle.go_typing.specs.Env.{unknown, type_name}
 use Rattle.go_typing.specs.Scopes.{Env}
 use Rattle.go_packages.specs.Items.{Item, type_item, items_of}
 use Rattle.go_packages.specs.Known.{Known, first_names, named_type, type_found, type_decl, decl_of}
 use Rattle.go_sound.proofs.KnownWords.{NumberedTo}
 use Rattle.go_sound.proofs.Numbered.{IsNumbered, items_numbered}
 use Rattle.go_sets.specs.declared.numbers.NameMap.{NameMap}
-use Rattle.go_settled.specs.Rows.{Row, items_in, types_by, binds_by, known_by, typed_at, one_typed}
+use Rattle.go_settled.specs.Rows.{Row, items_in, types_by, binds_by, known_by, one_typed}
 use Rattle.go_binds.specs.Stands.{Stands, IsSetAt}
 use Rattle.go_binds.proofs.TypeLemmas.{type_set}
 use Rattle.go_known.specs.Before.{is_unnamed, Before, Outcome}

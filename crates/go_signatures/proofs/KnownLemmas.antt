@@ -1,8 +1,8 @@
 -- Types of which each may be known, from the first to the last.
-use Rattle.std.proofs.Common.{arith, ◌≡◌, ◌<◌, ◌≤◌, ◌+◌, ℕ, zero, suc, ◌∙◌, refl, sym, ap, subst, List, [], ◌∷◌, ◌++◌, append_assoc, length, map, drop, get_or, Option, Some, None}
+use Rattle.std.proofs.Common.{arith, ◌≡◌, ◌<◌, ◌≤◌, ◌+◌, ℕ, zero, suc, ◌∙◌, sym, ap, subst, List, [], ◌∷◌, ◌++◌, append_assoc, length, map, drop, get_or, Option, Some, None}
 use Rattle.std.proofs.Math.Seq.{drop-cons}
 use Rattle.std.proofs.lemmas.List.{append-nil}
-use Rattle.go_type.specs.Tree.{Ty, Tys, more_tys}
+use Rattle.go_type.specs.Tree.{Ty}
 use Rattle.go_type.specs.Levels.{tree_of, trees_of, IdsBelow}
 use Rattle.go_type.specs.declared.types.TypeId.{TypeId}
 use Rattle.go_packages.specs.Signature.{and_type}

@@ -1,5 +1,5 @@
 -- What is told of a signature, and its types.
-use Rattle.std.proofs.Common.{arith, ◌≡◌, ℕ, ◌∙◌, refl, sym, ap, subst, List, [], ◌∷◌, ◌++◌, append_assoc, length, map, Bool, true, false, Option, Some, None}
+use Rattle.std.proofs.Common.{arith, ◌≡◌, ◌∙◌, refl, sym, ap, List, [], ◌∷◌, ◌++◌, append_assoc, length, map, Bool, true, false, Option, Some, None}
 use Rattle.std.specs.Prelude.{IfSome, Vec, option_map}
 use Rattle.std.specs.declared.alloc.Global.{Global}
 use Rattle.std.proofs.lemmas.List.{append-nil}

@@ -1,5 +1,5 @@
 -- Own: what the types of a signature in code stand for.
-use Rattle.std.specs.Prelude.{ℕ, List, [], ◌∷◌, Option, Some, None}
+use Rattle.std.specs.Prelude.{ℕ, List, [], ◌∷◌, Option, Some}
 use Rattle.go_type.specs.Tree.{Ty, Tys, no_tys}
 use Rattle.go_type.specs.Levels.{trees_of, IdsBelow}
 use Rattle.go_packages.specs.Signature.{SigTypes, and_type}

@@ -7,7 +7,7 @@ use Rattle.go_statements.specs.Walk.{Walk}
 use Rattle.go_syntax.specs.View.{expr_view}
 use Rattle.go_type.specs.Table.{places, size}
 use Rattle.go_type.specs.declared.table.TypeTable.{TypeTable}
-use Rattle.go_scopes.specs.EnvView.{table_of, env_of}
+use Rattle.go_scopes.specs.EnvView.{env_of}
 use Rattle.go_scopes.specs.View.{decl_of}
 use Rattle.go_scopes.specs.Within.{DeclaredBelow}
 use Rattle.go_settled.specs.Rows.{known_by}

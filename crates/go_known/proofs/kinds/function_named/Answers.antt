@@ -1,8 +1,7 @@
 use Rattle.std.proofs.Common.{◌∙◌, ap, refl}
-use Rattle.std.specs.Prelude.{Option}
 use Rattle.go_packages.specs.Items.{function_item}
 use Rattle.go_packages.specs.Known.{function_decl}
-use Rattle.go_packages.specs.Signature.{SigTypes, sig_types}
+use Rattle.go_packages.specs.Signature.{sig_types}
 use Rattle.go_statements.specs.Walk.{Walk}
 use Rattle.go_syntax.specs.View.{sig_view}
 use Rattle.go_type.specs.Table.{places, size}

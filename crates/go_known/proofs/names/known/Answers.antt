@@ -1,12 +1,9 @@
-use Rattle.std.proofs.Common.{◌≡◌, ◌∙◌, ◌++◌, ap, List, [], subst, sym, map, Bool}
-use Rattle.std.proofs.lemmas.Result.{on_ok_weaker}
+use Rattle.std.proofs.Common.{List, subst, sym, map}
 use Rattle.go_answers.specs.AnswerView.{flaw_view}
 use Rattle.go_items.specs.ItemView.{item_view}
-use Rattle.go_packages.specs.Cycles.{cycles_from}
 use Rattle.go_packages.specs.Items.{Item}
 use Rattle.go_packages.specs.Known.{nothing_known}
 use Rattle.go_scopes.specs.EnvView.{env_of}
-use Rattle.go_typing.specs.Env.{Bind}
 use Rattle.go_binds.specs.Stands.{Stands}
 use Rattle.go_needs.specs.Leads.{Tells}
 use Rattle.go_known.specs.State.{at_first}

@@ -1,5 +1,4 @@
-use Rattle.std.proofs.Common.{arith, ◌≡◌, ◌<◌, ◌∙◌, ap, List, ℕ, Bool, [], length, subst, sym, true, false, map}
-use Rattle.std.specs.Prelude.{IsTrue}
+use Rattle.std.proofs.Common.{List, ℕ, Bool, [], subst, sym, true, map}
 use Rattle.go_items.specs.ItemView.{item_view}
 use Rattle.go_scopes.specs.EnvView.{env_of}
 use Rattle.go_known.specs.State.{Passed}

@@ -1,4 +1,4 @@
-use Rattle.std.proofs.Common.{arith, ◌+◌, ℕ, List, [], subst, sym, drop, map, false, get_or}
+use Rattle.std.proofs.Common.{arith, ◌+◌, ℕ, List, subst, sym, drop, map, false, get_or}
 use Rattle.go_items.specs.ItemView.{item_view}
 use Rattle.go_scopes.specs.EnvView.{env_of}
 use Rattle.go_known.specs.State.{Passed}

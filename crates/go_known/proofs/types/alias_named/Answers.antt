@@ -1,4 +1,4 @@
-use Rattle.std.proofs.Common.{◌∙◌, sym, ap, refl}
+use Rattle.std.proofs.Common.{◌∙◌, ap, refl}
 use Rattle.go_packages.specs.Items.{alias_item}
 use Rattle.go_packages.specs.Known.{alias_decl}
 use Rattle.go_syntax.specs.View.{expr_view}

@@ -1,8 +1,8 @@
-use Rattle.std.proofs.Common.{◌≡◌, ◌<◌, ◌∙◌, sym, ap, subst, refl, ℕ}
+use Rattle.std.proofs.Common.{◌≡◌, ◌∙◌, sym, ap, subst, refl}
 use Rattle.go_packages.specs.Items.{type_item}
 use Rattle.go_type.specs.Levels.{tree_of}
 use Rattle.go_type.specs.Named.{IsUnnamed}
-use Rattle.go_type.specs.Table.{places, size, name_count}
+use Rattle.go_type.specs.Table.{places}
 use Rattle.go_type.specs.declared.table.TypeTable.{TypeTable}
 use Rattle.go_scopes.specs.EnvView.{table_of, env_of}
 use Rattle.go_settled.specs.Rows.{known_by}

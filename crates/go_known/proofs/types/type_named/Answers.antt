@@ -1,11 +1,9 @@
 use Rattle.std.proofs.Common.{◌∙◌, sym, ap}
-use Rattle.std.specs.Prelude.{Option}
 use Rattle.go_packages.specs.Items.{type_item}
 use Rattle.go_packages.specs.Known.{named_type, type_decl}
 use Rattle.go_syntax.specs.View.{expr_view}
 use Rattle.go_type.specs.Levels.{tree_of}
 use Rattle.go_type.specs.Table.{places}
-use Rattle.go_type.specs.declared.types.TypeId.{TypeId}
 use Rattle.std.specs.Prelude.{option_map}
 use Rattle.go_scopes.specs.EnvView.{table_of, env_of}
 use Rattle.go_settled.specs.Rows.{known_by}

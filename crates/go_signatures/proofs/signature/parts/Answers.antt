@@ -1,5 +1,4 @@
 use Rattle.std.proofs.Common.{◌∙◌, sym, ap, List, ◌++◌, map}
-use Rattle.std.specs.Prelude.{Option}
 use Rattle.go_answers.specs.AnswerView.{flaw_view}
 use Rattle.go_items.specs.ParamView.{grouped_view}
 use Rattle.go_items.specs.declared.param.Grouped.{Grouped}
