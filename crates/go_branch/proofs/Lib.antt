@@ -1,0 +1,3 @@
+mod PassedLemmas
+mod BranchLemmas
+mod TagLemmas

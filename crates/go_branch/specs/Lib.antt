@@ -1,0 +1,4 @@
+pub mod Passed
+pub mod Leaving
+pub mod TagView
+pub mod Apart
