@@ -68,7 +68,7 @@ fn func(alloc: Global) -> Result<Func, NoMemory> {
 }
 
 // A program of that function, which is the method `M` of a type.
-fn program(alloc: Global, types: TypeTable, owner: TypeId) -> Result<Program, NoMemory> {
+pub fn program(alloc: Global, types: TypeTable, owner: TypeId) -> Result<Program, NoMemory> {
     let mut funcs = Vec::new(alloc);
     funcs.push(func(alloc)?)?;
     let mut methods = Vec::new(alloc);

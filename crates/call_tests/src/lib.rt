@@ -4,4 +4,10 @@
 #[cfg(test)]
 mod bindings;
 #[cfg(test)]
+mod calls;
+#[cfg(test)]
+mod ends;
+#[cfg(test)]
 mod entries;
+#[cfg(test)]
+mod next;
