@@ -1,0 +1,3 @@
+pub mod PlaysLemmas
+pub mod RecoverLemmas
+pub mod TaskLemmas
