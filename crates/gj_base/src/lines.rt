@@ -21,23 +21,3 @@ pub fn line_col(bytes: &[u8], offset: u32) -> (u32, u32)
     }
     (line, column)
 }
-
-#[cfg(test)]
-mod tests {
-    use super::*;
-
-    #[test]
-    fn lines_and_columns(rt: HostRuntime) {
-        let text = b"ab\n\ncd";
-        assert_eq!(rt; line_col(text, 0), (1, 1));
-        assert_eq!(rt;
-            line_col(text, 2),
-            (1, 3),
-            "the newline stands in the line that it ends"
-        );
-        assert_eq!(rt; line_col(text, 3), (2, 1));
-        assert_eq!(rt; line_col(text, 5), (3, 2));
-        assert_eq!(rt; line_col(text, 6), (3, 3), "the end of the text");
-        assert_eq!(rt; line_col(b"", 0), (1, 1));
-    }
-}

@@ -7,6 +7,3 @@
 pub mod seen;
 
 pub use seen::ConstSet;
-
-#[cfg(test)]
-mod tests;

@@ -15,8 +15,6 @@ pub mod infix;
 pub mod prefix;
 pub mod range;
 pub mod shifts;
-#[cfg(test)]
-mod tests;
 
 pub use constant::{Basic, Const, ConstRefusal};
 pub use conversion::convert;

@@ -13,6 +13,3 @@ pub mod param;
 
 pub use item::Item;
 pub use items::items_of;
-
-#[cfg(test)]
-mod tests;

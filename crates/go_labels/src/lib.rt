@@ -12,6 +12,3 @@ pub mod told;
 
 pub use target::Targets;
 pub use told::labels_told;
-
-#[cfg(test)]
-mod tests;

@@ -8,6 +8,3 @@ pub mod order;
 
 pub use generated::or_generated;
 pub use order::least;
-
-#[cfg(test)]
-mod tests;

@@ -10,6 +10,3 @@ pub mod spots;
 pub use names::NameSet;
 pub use numbers::NameMap;
 pub use spots::PlaceSet;
-
-#[cfg(test)]
-mod tests;

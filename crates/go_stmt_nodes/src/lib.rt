@@ -10,5 +10,3 @@ pub mod breaks;
 pub mod ends;
 pub mod simple;
 pub mod store;
-#[cfg(test)]
-mod tests;

@@ -16,6 +16,3 @@ pub use keyword::Keyword;
 pub use kind::TokenKind;
 pub use operator::Operator;
 pub use token::Tokens;
-
-#[cfg(test)]
-mod tests;

@@ -2,5 +2,3 @@
 #![tactic(auto)]
 
 pub mod names;
-#[cfg(test)]
-mod tests;

@@ -5,8 +5,6 @@
 pub mod body;
 pub mod find;
 pub mod make;
-#[cfg(test)]
-mod tests;
 
 pub use body::Body;
 pub use find::find_body;

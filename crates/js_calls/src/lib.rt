@@ -5,8 +5,6 @@
 pub mod begin;
 pub mod function;
 pub mod host;
-#[cfg(test)]
-mod tests;
 pub mod value;
 
 pub use begin::{arguments, call, with_callee};

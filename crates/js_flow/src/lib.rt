@@ -5,5 +5,3 @@
 pub mod back;
 pub mod jumps;
 pub mod order;
-#[cfg(test)]
-mod tests;

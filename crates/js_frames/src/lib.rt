@@ -5,8 +5,6 @@
 pub mod frame;
 pub mod state;
 pub mod step;
-#[cfg(test)]
-mod tests;
 
 pub use frame::{Caller, End, Flow, Frame, Halt, Task, Use};
 pub use state::{Env, Spare, State};

@@ -5,8 +5,6 @@
 pub mod dictionary;
 pub mod heap;
 pub mod operate;
-#[cfg(test)]
-mod tests;
 pub mod value;
 
 pub use heap::Object;

@@ -5,6 +5,4 @@
 pub mod cases;
 pub mod operands;
 pub mod sets;
-#[cfg(test)]
-mod tests;
 pub mod turn;

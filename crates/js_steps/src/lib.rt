@@ -7,5 +7,3 @@ pub mod evaluate;
 pub mod execute;
 pub mod follow;
 pub mod give;
-#[cfg(test)]
-mod tests;

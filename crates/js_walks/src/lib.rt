@@ -5,8 +5,6 @@
 pub mod laws;
 pub mod outside;
 pub mod stop;
-#[cfg(test)]
-mod tests;
 
 pub use laws::nothing_taken_back;
 pub use outside::{next, picked, written};
