@@ -3,7 +3,7 @@
 //! The Go Programming Language Specification (as of Go 1.17), "Statements". Which tasks are no step
 //! is own.
 
-ghost use Rattle.std.specs.Prelude.{◌≡◌, ◌<◌, ◌+◌, List, Some, None, false, slice_get, IfOk, IfSome};
+ghost use Rattle.std.specs.Prelude.{◌≡◌, ◌<◌, ◌+◌, [], List, Some, None, false, slice_get, IfOk, IfSome, IfNone};
 ghost use Rattle.std.specs.Bool.{OnTrue, OnFalse};
 ghost use Rattle.go_type.specs.Tree.{Ty};
 ghost use Rattle.go_tasks.specs.Seen.{stmts_listed};
@@ -198,6 +198,7 @@ pub fn next_todo<'p, 'a>(
     ensures value { IfOk result (λ r. (ts : List Ty) → ComesTo (tasks_of ts tasks.old.items) (stack_of ts values.old.items) ts r tasks.new.items values.new.items) }
     ensures step { IfOk result (λ r. IfSome r IsStep) }
     ensures closed { IfOk result (λ r. IfSome r (λ t. opens t ≡ false)) }
+    ensures none { IfOk result (λ r. IfNone r (tasks.new.items ≡ [])) }
 {
     'tasks: while let Some(todo) = tasks.pop() {
         let gone = pass_over(tasks, values, todo)?;

@@ -10,12 +10,12 @@ ghost use Rattle.js_frames.specs.Stands.{Steps, StepsIn};
 use js_calls::call;
 use js_code::Part;
 use js_frames::frame::{Frame, Halt, Task, Use};
-use js_frames::state::{Env, State, no_values, simple};
+use js_frames::state::{Env, State, simple};
 use js_frames::step::{is_simple, wait};
 use js_heap::Value;
 use js_heap::heap::{self, Object};
 use js_operands::operands::first;
-use js_simple::list::cell_at;
+use js_simple::list::{cell_at, count};
 
 /// Goes on with the elements of an array that are left: 11.1.4.
 pub fn elements<'p, 'a>(
@@ -67,7 +67,7 @@ fn begin<'p, 'a>(
         Part::CharCodeAt { e, .. } => first(env, state, stack, i, part, e),
         Part::Substring { e, .. } => first(env, state, stack, i, part, e),
         Part::Array { items, .. } => {
-            let values = no_values(env.alloc, &mut state.spare);
+            let values = Vec::with_capacity(env.alloc, count(&state.body.code, items))?;
             elements(state, stack, values, items)
         }
         Part::Decimal { e, .. } => first(env, state, stack, i, part, e),

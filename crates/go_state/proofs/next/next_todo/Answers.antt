@@ -28,6 +28,7 @@ returns-then-not-gone c = record {
       (when_false _ c.if-not-gone.true c.in_ok-gone.ensures.tasks) (when_false _ c.if-not-gone.true c.in_ok-gone.ensures.values) (when_false _ c.if-not-gone.true c.in_ok-gone.ensures.step);
   step = when_false _ c.if-not-gone.true c.in_ok-gone.ensures.step;
   closed = when_false _ c.if-not-gone.true c.in_ok-gone.ensures.closed;
+  none = tt;
 }
 
 pub returns : goal.returns
@@ -38,4 +39,5 @@ returns c = record {
       (nil_from_length _ (sym c.tasks.tasks.ok.0 ∙ c.in_default.ensures.cases.0)) (nil_from_length _ (sym c.pop.new.self.ok.0 ∙ c.in_default.ensures.cases.1));
   step = tt;
   closed = tt;
+  none = nil_from_length _ (sym c.pop.new.self.ok.0 ∙ c.in_default.ensures.cases.1);
 }

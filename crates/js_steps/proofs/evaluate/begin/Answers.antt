@@ -2,7 +2,6 @@ use Rattle.std.proofs.Common.{refl, ap, ◌∙◌}
 use Rattle.js_tree.specs.Evaluate.{setting}
 use Rattle.js_code.specs.Parts.{as_expr, expr_at, trees_of}
 use Rattle.js_code.specs.declared.part.Part.TheVariants as held
-use Rattle.js_frames.specs.declared.state.State.{State}
 use Rattle.js_frames.specs.Moment.{expr_does}
 use Rattle.js_frames.specs.Stands.{OnlyObjects, moment}
 use Rattle.js_operands.specs.WayLaws.{some_part, begins}
@@ -132,17 +131,16 @@ returns-in-Substring c = record {
       (λ script choices fuel b vs _. substring_is (setting script choices fuel) (moment b vs s) c.in-Substring.at (expr_at ts c.in-Substring.e) (expr_at ts c.in-Substring.from) (expr_at ts c.in-Substring.to)) c.first-in-Substring.ensures.keeps);
 }
 
-pub returns-in-Array : goal.returns-in-Array
-returns-in-Array c = record {
+pub returns-in_ok-values-in-Array : goal.returns-in_ok-values-in-Array
+returns-in_ok-values-in-Array c = record {
   keeps =
       let s = c.args.state.now in
-      let s1 : State = record s { spare = c.no_values-values.new.spare } in
-      let only : OnlyObjects s s1 = record { left = refl; globals = refl; body = refl; locals = refl; caught = refl } in
+      let only : OnlyObjects s s = record { left = refl; globals = refl; body = refl; locals = refl; caught = refl } in
       let stack = c.args.stack.now.items in
       let new = c.elements.new.stack.items in
       let s2 = c.elements.new.state in
       steps_in c.args.env.now stack new s s2 c.elements.result (λ st m. expr_does st (expr_at m.trees c.args.i) m)
-      (array_goes stack new s s1 s2 c.elements.result c.args.i c.in-Array.at c.in-Array.items c.no_values-values.result.items (c.requires.held ∙ ap some_part c.in-Array.is) only (λ b vs. refl) c.no_values-values.ensures c.elements.ensures.keeps);
+      (array_goes stack new s s s2 c.elements.result c.args.i c.in-Array.at c.in-Array.items c.in_ok-values-in-Array.values.items (c.requires.held ∙ ap some_part c.in-Array.is) only (λ b vs. refl) c.in_ok-values-in-Array.ensures.items c.elements.ensures.keeps);
 }
 
 pub returns-in-Decimal : goal.returns-in-Decimal
