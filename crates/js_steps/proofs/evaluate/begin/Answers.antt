@@ -172,4 +172,4 @@ pub returns-in_ok-v-in_default : goal.returns-in_ok-v-in_default
 returns-in_ok-v-in_default c = record { keeps = found_in c.args.env.now c.args.stack.now.items c.args.state.now c.simple.new.state c.args.i c.in_ok-v-in_default.v c.in_ok-v-in_default.ensures.same c.in_ok-v-in_default.ensures.value }
 
 pub returns-in_err-v-in_default : goal.returns-in_err-v-in_default
-returns-in_err-v-in_default c = record { keeps = found_none c.args.env.now c.args.stack.now.items c.args.state.now c.simple.new.state c.from_residual.result _ c.args.i c.from_residual.ensures.1 c.in_err-v-in_default.ensures.value }
+returns-in_err-v-in_default c = record { keeps = found_none c.args.env.now c.args.stack.now.items c.args.state.now c.simple.new.state c.from_residual-in_err-v-in_default.result _ c.args.i c.from_residual-in_err-v-in_default.ensures.1 c.in_err-v-in_default.ensures.value }
