@@ -1,0 +1,2 @@
+mod UpdateLemmas
+mod TopLemmas
