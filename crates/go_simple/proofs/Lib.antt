@@ -1,0 +1,8 @@
+mod CallLemmas
+mod PassedLemmas
+mod ToldLemmas
+mod DoesLemmas
+mod CountLemmas
+mod BackLemmas
+mod ReturnLemmas
+mod CaseLemmas
