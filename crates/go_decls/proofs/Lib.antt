@@ -1,0 +1,4 @@
+mod Steps
+mod FunctionLemmas
+mod ConstantLemmas
+mod DeclLemmas
