@@ -1,7 +1,7 @@
 //! The code of a function and of a first value, and look-ups by names.
 
-use js_bodies::{Body, bodies, find_body, no_body, value_body};
 use gj_base::Text;
+use js_bodies::{Body, bodies, find_body, no_body, value_body};
 use js_slots::names::{Names, functions_in, globals_in};
 use js_tree::{ExprForm, JsExpr, JsFunction, JsItem, JsStmts};
 use std::alloc::Global;

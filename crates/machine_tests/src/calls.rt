@@ -1,9 +1,9 @@
 //! Calls of the host's functions, and of a function of a script by its part.
 
-use js_calls::{call, call_value, called};
 use bumpalo::Bump;
 use gj_base::Text;
 use js_bodies::{Body, bodies, no_body, value_body};
+use js_calls::{call, call_value, called};
 use js_code::Part;
 use js_frames::{End, Env, Flow, Frame, Halt, Spare, State, Task, Use};
 use js_heap::Value;

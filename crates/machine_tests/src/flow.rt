@@ -1,10 +1,10 @@
 //! Completions and throws on small stacks.
 
+use bumpalo::Bump;
+use js_bodies::{Body, no_body};
 use js_flow::back::{leave, unwind};
 use js_flow::jumps::{after_switch, after_turn, go_on, is_target, loop_label, returned};
 use js_flow::order::{otherwise, statements, through};
-use bumpalo::Bump;
-use js_bodies::{Body, no_body};
 use js_frames::frame::{Caller, Flow, Frame, Task};
 use js_frames::state::{Env, Spare, State};
 use js_heap::Value;

@@ -1,9 +1,11 @@
 //! One step of each kind.
 
-use js_frames::frame::{End, Flow, Frame, Halt, Task};
-use js_frames::state::{Spare, State, leave_slots, leave_values, no_slots, no_values, set_slot, tick};
-use js_frames::step::{chosen, done, given, is_simple, wait};
 use js_bodies::{Body, no_body};
+use js_frames::frame::{End, Flow, Frame, Halt, Task};
+use js_frames::state::{
+    Spare, State, leave_slots, leave_values, no_slots, no_values, set_slot, tick,
+};
+use js_frames::step::{chosen, done, given, is_simple, wait};
 use js_heap::Value;
 use js_simple::Slot;
 use std::alloc::Global;

@@ -1,11 +1,11 @@
 //! Values in 16 bytes, and each call that takes memory once.
 
-use js_heap::heap::{self, Object};
-use js_heap::operate::{decimal_text, on_values, one_byte, part_of};
-use js_heap::value::{Value, made, same_value};
 use bumpalo::Bump;
 use gj_base::Text;
 use indexmap::IndexMap;
+use js_heap::heap::{self, Object};
+use js_heap::operate::{decimal_text, on_values, one_byte, part_of};
+use js_heap::value::{Value, made, same_value};
 use js_tree::BinaryOp;
 use js_value::number::Number;
 use std::alloc::Global;

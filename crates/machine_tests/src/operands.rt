@@ -3,10 +3,6 @@
 ghost use Rattle.std.specs.Prelude.{IfOk};
 ghost use Rattle.js_simple.specs.Simple.{IsSomeCode};
 
-use js_operands::cases::case_of;
-use js_operands::operands::first;
-use js_operands::sets::{set_global, set_local};
-use js_operands::turn::{label, turn};
 use bumpalo::Bump;
 use gj_base::NoMemory;
 use js_bodies::{Body, no_body};
@@ -14,6 +10,10 @@ use js_code::{Code, Part};
 use js_frames::frame::{End, Frame, Halt, Task};
 use js_frames::state::{Env, Spare, State};
 use js_heap::Value;
+use js_operands::cases::case_of;
+use js_operands::operands::first;
+use js_operands::sets::{set_global, set_local};
+use js_operands::turn::{label, turn};
 use js_simple::Marks;
 use js_tree::BinaryOp;
 use std::alloc::Global;

@@ -1,14 +1,14 @@
 //! Steps without parts of code: what nothing stands for, and frames that hand on.
 
-use js_steps::evaluate::{elements, evaluate};
-use js_steps::execute::execute;
-use js_steps::follow::follow;
-use js_steps::give::give;
 use bumpalo::Bump;
 use js_bodies::{Body, no_body};
 use js_frames::frame::{Flow, Frame, Task};
 use js_frames::state::{Env, Spare, State};
 use js_heap::Value;
+use js_steps::evaluate::{elements, evaluate};
+use js_steps::execute::execute;
+use js_steps::follow::follow;
+use js_steps::give::give;
 use std::alloc::Global;
 use std::process::Abort;
 use std::test::Fail;

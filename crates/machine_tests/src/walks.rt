@@ -1,10 +1,10 @@
 //! A text that is printed, and a number that is taken, each after a tick.
 
-use js_walks::{Stop, next, picked, written};
 use gj_base::{ListChoices, VecSink};
 use js_bodies::{Body, no_body};
 use js_frames::{End, Flow, Halt, Spare, State, Task, Use};
 use js_heap::Value;
+use js_walks::{Stop, next, picked, written};
 use std::alloc::Global;
 use std::test::Fail;
 

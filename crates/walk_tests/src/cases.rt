@@ -1,7 +1,7 @@
 //! Constants that stand twice, by hand.
 
-use go_cases::seen::ConstSet;
 use gj_base::Text;
+use go_cases::seen::ConstSet;
 use go_const::Const;
 use std::alloc::Global;
 use std::test::Fail;

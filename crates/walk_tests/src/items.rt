@@ -1,6 +1,7 @@
 //! Rows from the Go specification (as of Go 1.17), "Constant declarations", "Iota", "Function types",
 //! by hand.
 
+use gj_base::{Place, Text};
 use go_items::count::{count_functions, main_number};
 use go_items::item::{Item, name_of};
 use go_items::items::items_of;
@@ -8,7 +9,6 @@ use go_items::param::{
     Grouped, all_named, in_groups, is_mixed, params_of, params_place, results_of, results_place,
     some_named,
 };
-use gj_base::{Place, Text};
 use go_syntax::tree::{
     Block, Decl, DeclForm, Expr, ExprForm, File, Name, Param, Params, Results, Sig, TypeSpec,
     ValueSpec,

@@ -1,11 +1,11 @@
 //! Rows from docs/LANGUAGE.md and the Go specification (as of Go 1.17), "Labeled statements", "Break
 //! statements", "Continue statements", by hand.
 
-use go_labels::target::{Target, Targets};
-use go_labels::told::labels_told;
 use gj_base::{Place, Text};
 use go_answers::answer::Flaw;
 use go_core::statement::Label;
+use go_labels::target::{Target, Targets};
+use go_labels::told::labels_told;
 use go_syntax::tree::{Block, Name, Stmt, StmtForm};
 use std::alloc::Global;
 use std::test::Fail;

@@ -1,8 +1,8 @@
 //! Rows of the least fault, worked out by hand.
 
-use go_least::{least, or_generated};
 use gj_base::{Place, Text};
 use go_answers::answer::Flaw;
+use go_least::{least, or_generated};
 use std::alloc::{AllocError, Global};
 use std::test::Fail;
 

@@ -1,9 +1,9 @@
 //! Sets, filled and asked.
 
+use gj_base::{Place, Text};
 use go_sets::names::NameSet;
 use go_sets::numbers::NameMap;
 use go_sets::spots::PlaceSet;
-use gj_base::{Place, Text};
 use std::alloc::Global;
 use std::test::Fail;
 

@@ -1,14 +1,14 @@
 //! Terminating statements: rows from the Go specification (as of Go 1.17), "Terminating statements",
 //! by hand.
 
+use go_core::node::{CoreExpr, GlobalId, Var, VarId};
+use go_core::statement::{BranchKind, CoreStmt, CoreStmtForm, CoreStmts, Label};
+use go_nodes::leaf;
 use go_stmt_nodes::branch::{body, choose, clause, clauses, switch_on, test, turn};
 use go_stmt_nodes::breaks::any_breaks;
 use go_stmt_nodes::ends::ends_terminating;
 use go_stmt_nodes::simple::{branch, declare, give_back, perform};
 use go_stmt_nodes::store::{blank, global, local, store, values};
-use go_core::node::{CoreExpr, GlobalId, Var, VarId};
-use go_core::statement::{BranchKind, CoreStmt, CoreStmtForm, CoreStmts, Label};
-use go_nodes::leaf;
 use go_type::TypeTable;
 use go_type::types::TypeId;
 use std::alloc::Global;

@@ -1,8 +1,8 @@
 //! Names in the order of the text, worked out by hand.
 
-use go_uses::names::{in_expr, in_exprs, in_stmt};
 use gj_base::{Place, Text};
 use go_syntax::tree::{Block, Expr, ExprForm, Name, Params, Results, Sig, Stmt, StmtForm};
+use go_uses::names::{in_expr, in_exprs, in_stmt};
 use std::alloc::Global;
 use std::test::Fail;
 
