@@ -1,6 +1,6 @@
 -- own: plain packages, the one kind of program that is built so far: one file whose one declaration is
 -- a function `main` in which each statement is empty or prints one string literal.
-use Rattle.std.specs.Prelude.{ℕ, Bool, true, false, not, ◌&&◌, List, [], ◌∷◌, Option, Some, None, codes, bytes_eq, if◌then◌else◌}
+use Rattle.std.specs.Prelude.{ℕ, Bool, true, false, not, ◌&&◌, nat_lt, List, [], ◌∷◌, length, Option, Some, None, codes, bytes_eq, if◌then◌else◌}
 use Rattle.gj_base.specs.declared.place.Place.{Place}
 use Rattle.go_syntax.specs.Tree as t
 
@@ -27,9 +27,13 @@ abbrev pub is_println : t.Expr → Bool
 is_println (t.NameExpr at name) = bytes_eq name (codes "println")
 is_println _ = false
 
+-- own: a text that isn't longer than a file may be, so no literal of a file is longer
+abbrev pub short_text : List ℕ → Option (List ℕ)
+short_text text = if nat_lt 4194304 (length text) then None else Some text
+
 -- the value of a string literal
 abbrev pub literal_text : t.Expr → Option (List ℕ)
-literal_text (t.StrExpr at text) = Some text
+literal_text (t.StrExpr at text) = short_text text
 literal_text _ = None
 
 -- the value of the one argument, a string literal

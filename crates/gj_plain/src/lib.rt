@@ -1,5 +1,4 @@
-//! Plain packages, the one kind of program that is built so far, and their core programs.
+//! Plain packages, the one kind of program that is built so far.
 #![tactic(auto)]
 
 pub mod plain;
-pub mod program;

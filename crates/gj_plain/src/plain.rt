@@ -9,6 +9,9 @@ use gj_base::{NoMemory, Place, Text};
 use go_syntax::tree::{Decl, DeclForm, Expr, ExprForm, File, Params, Results, Sig, Stmt, StmtForm};
 use std::alloc::Global;
 
+/// The most bytes of a file.
+const MOST_BYTES: usize = 4194304;
+
 /// A `main`: where it is declared, and the texts that it prints, each on a line of its own.
 #[derive(Drop)]
 pub struct Main {
@@ -175,7 +178,17 @@ fn literal_text(e: &Expr) -> Option<&[u8]>
     ensures { option_map (λ text. text.now) result ≡ p.literal_text (expr_view e.now) }
 {
     match &*e.form {
-        ExprForm::Str(text) => Some(text.as_bytes()),
+        ExprForm::Str(text) => short_text(text.as_bytes()),
         _ => None,
     }
+}
+
+/// A text that isn't longer than a file may be.
+fn short_text(text: &[u8]) -> Option<&[u8]>
+    ensures { option_map (λ text. text.now) result ≡ p.short_text text.now }
+{
+    if text.len() > MOST_BYTES {
+        return None;
+    }
+    Some(text)
 }

@@ -1,5 +1,5 @@
 -- The forms that a plain package's parts have.
-use Rattle.std.proofs.Common.{arith, ◌≡◌, ℕ, List, [], ◌∷◌, Bool, true, false, not, ◌&&◌, if◌then◌else◌, bytes_eq, refl, sym, ap, ◌∙◌}
+use Rattle.std.proofs.Common.{arith, ◌≡◌, ℕ, List, [], ◌∷◌, Bool, true, false, not, ◌&&◌, if◌then◌else◌, nat_lt, length, bytes_eq, refl, sym, ap, ◌∙◌}
 use Rattle.std.specs.Prelude.{Option, Some, None, codes}
 use Rattle.std.proofs.lemmas.Slice.Eq.{bytes_eq-Decides}
 use Rattle.gj_base.specs.declared.place.Place.{Place}
@@ -24,21 +24,31 @@ line_expr at p q text = t.CallExpr at (t.NameExpr p (codes "println")) (t.MoreEx
 
 -- ---- what is there where a text is
 
+-- not longer than a file
+abbrev pub is_long : List ℕ → Bool
+is_long text = nat_lt 4194304 (length text)
+
 pub record IsLiteral (e : t.Expr) (text : List ℕ) : Type 0 where
   pub at : Place
   pub is : e ≡ t.StrExpr at text
+  pub short : is_long text ≡ false
+
+short : (at : Place) (s : List ℕ) (long : Bool) (text : List ℕ) → is_long s ≡ long → (if long then None else Some s) ≡ Some text → IsLiteral (t.StrExpr at s) text
+short at s true text p h = absurd (cc)
+short at s false text p h = let same : s ≡ text = cc in record { at = at; is = ap (t.StrExpr at) same; short = ap is_long (sym same) ∙ p }
 
 pub a_literal : (e : t.Expr) (text : List ℕ) → literal_text e ≡ Some text → IsLiteral e text
-a_literal (t.StrExpr at s) text h = let same : s ≡ text = cc in record { at = at; is = ap (t.StrExpr at) same }
+a_literal (t.StrExpr at s) text h = short at s (is_long s) text refl h
 a_literal _ text h = absurd (cc)
 
 pub record IsArgument (es : t.Exprs) (text : List ℕ) : Type 0 where
   pub at : Place
   pub is : es ≡ t.MoreExprs (t.StrExpr at text) t.NoExprs
+  pub short : is_long text ≡ false
 
 pub an_argument : (es : t.Exprs) (text : List ℕ) → argument_text es ≡ Some text → IsArgument es text
 an_argument t.NoExprs text h = absurd (cc)
-an_argument (t.MoreExprs e t.NoExprs) text h = let l = a_literal e text h in record { at = l.at; is = ap (λ (x : t.Expr). t.MoreExprs x t.NoExprs) l.is }
+an_argument (t.MoreExprs e t.NoExprs) text h = let l = a_literal e text h in record { at = l.at; is = ap (λ (x : t.Expr). t.MoreExprs x t.NoExprs) l.is; short = l.short }
 an_argument (t.MoreExprs e (t.MoreExprs f others)) text h = absurd (cc)
 
 pub record IsCallee (e : t.Expr) : Type 0 where
@@ -54,6 +64,7 @@ pub record IsLine (e : t.Expr) (text : List ℕ) : Type 0 where
   pub callee : Place
   pub literal : Place
   pub is : e ≡ line_expr at callee literal text
+  pub short : is_long text ≡ false
 
 called : (at : Place) (f : t.Expr) (xs : t.Exprs) (spread is_it : Bool) (text : List ℕ) → is_println f ≡ is_it
     → (if not spread && is_it then argument_text xs else None) ≡ Some text → IsLine (t.CallExpr at f xs spread) text
@@ -65,6 +76,7 @@ called at f xs false true text p h =
       callee = c.at;
       literal = a.at;
       is = ap (λ (g : t.Expr). t.CallExpr at g xs false) c.is ∙ ap (λ (ys : t.Exprs). t.CallExpr at (t.NameExpr c.at (codes "println")) ys false) a.is;
+      short = a.short;
     }
 called at f xs false false text p h = absurd (cc)
 called at f xs true is_it text p h = absurd (cc)
@@ -79,12 +91,13 @@ pub record IsPrint (s : t.Stmt) (text : List ℕ) : Type 0 where
   pub callee : Place
   pub literal : Place
   pub is : s ≡ t.ExprStmt at (t.MoreExprs (line_expr call callee literal text) t.NoExprs)
+  pub short : is_long text ≡ false
 
 performed : (at : Place) (es : t.Exprs) (text : List ℕ) → call_in es ≡ Some text → IsPrint (t.ExprStmt at es) text
 performed at t.NoExprs text h = absurd (cc)
 performed at (t.MoreExprs e t.NoExprs) text h =
     let l = a_line e text h in
-    record { at = at; call = l.at; callee = l.callee; literal = l.literal; is = ap (λ (x : t.Expr). t.ExprStmt at (t.MoreExprs x t.NoExprs)) l.is }
+    record { at = at; call = l.at; callee = l.callee; literal = l.literal; is = ap (λ (x : t.Expr). t.ExprStmt at (t.MoreExprs x t.NoExprs)) l.is; short = l.short }
 performed at (t.MoreExprs e (t.MoreExprs f others)) text h = absurd (cc)
 
 pub a_print : (s : t.Stmt) (text : List ℕ) → printed_text s ≡ Some text → IsPrint s text

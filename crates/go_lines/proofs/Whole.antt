@@ -11,7 +11,10 @@ use Rattle.go_statements.specs.Labels.{labels_in_all, branches_in_all, label_fla
 use Rattle.go_statements.specs.Statements.{stmts, where_clean, missing_return}
 use Rattle.go_packages.specs.Checked.{told, or_generated, program_of}
 use Rattle.gj_plain.specs.Plain.{Main, is_bare, texts_of, main_in}
-use Rattle.go_lines.specs.Lines.{print_lines, PrintsLines}
+use Rattle.js_emit.specs.Lines.{print_lines}
+use Rattle.js_emit.specs.Prints.{all_print, only_prints}
+use Rattle.go_core.specs.CoreTree.{Stmts}
+use Rattle.go_lines.specs.Lines.{PrintsLines}
 use Rattle.go_lines.proofs.Forms.{a_main}
 use Rattle.go_lines.proofs.Printed.{inner, line_stmts, bodies, prints}
 
@@ -30,11 +33,12 @@ told_with closes d ls bs = or_generated 1 ((d.flaws ++ label_flaws [] ls bs ++ u
 record IsRight (ds : List t.Decl) (texts : List (List ℕ)) : Type 0 where
   nothing : told ds ≡ []
   lines : PrintsLines (program_of ds) texts
+  alone : only_prints (program_of ds) ≡ true
 
 module _ (at name : Place) (opens closes : Place) (ss : t.Stmts) (texts : List (List ℕ)) (h : texts_of ss ≡ Some texts) where
   by_did : (s : t.Sig) → told (package_of at name s opens ss closes) ≡ told_with closes (stmts ss around (inner name [])) (labels_in_all ss) (branches_in_all ss)
-      → PrintsLines (program_of (package_of at name s opens ss closes)) texts → IsRight (package_of at name s opens ss closes) texts
-  by_did s e l =
+      → PrintsLines (program_of (package_of at name s opens ss closes)) texts → only_prints (program_of (package_of at name s opens ss closes)) ≡ true → IsRight (package_of at name s opens ss closes) texts
+  by_did s e l o =
       let r = prints ss texts around name [] h in
       record {
         nothing = e
@@ -42,16 +46,20 @@ module _ (at name : Place) (opens closes : Place) (ss : t.Stmts) (texts : List (
             ∙ ap (λ (ls : List Name). told_with closes (record { core = line_stmts texts; flaws = []; walk = inner name r.uses }) ls (branches_in_all ss)) r.labels
             ∙ ap (λ (bs : List (List ℕ)). told_with closes (record { core = line_stmts texts; flaws = []; walk = inner name r.uses }) [] bs) r.branches;
         lines = l;
+        alone = o;
       }
 
   the_body : body (stmts ss around (inner name [])).core ≡ print_lines texts
   the_body = let r = prints ss texts around name [] h in ap (λ (d : Did). body d.core) r.did ∙ bodies texts
 
+  printing : all_print (body (stmts ss around (inner name [])).core) ≡ true
+  printing = let r = prints ss texts around name [] h in ap all_print the_body ∙ r.alone
+
   with_none : (p : Place) → IsRight (package_of at name (t.SigOf p t.NoParams t.NoResults) opens ss closes) texts
-  with_none p = by_did (t.SigOf p t.NoParams t.NoResults) refl (record { function = _; found = refl; no_results = refl; captures_none = refl; lines = the_body })
+  with_none p = by_did (t.SigOf p t.NoParams t.NoResults) refl (record { function = _; found = refl; no_results = refl; captures_none = refl; lines = the_body }) printing
 
   with_list : (p q : Place) → IsRight (package_of at name (t.SigOf p t.NoParams (t.ManyResults q t.NoParams)) opens ss closes) texts
-  with_list p q = by_did (t.SigOf p t.NoParams (t.ManyResults q t.NoParams)) refl (record { function = _; found = refl; no_results = refl; captures_none = refl; lines = the_body })
+  with_list p q = by_did (t.SigOf p t.NoParams (t.ManyResults q t.NoParams)) refl (record { function = _; found = refl; no_results = refl; captures_none = refl; lines = the_body }) printing
 
   by_signature : (s : t.Sig) → is_bare s ≡ true → IsRight (package_of at name s opens ss closes) texts
   by_signature (t.SigOf p t.NoParams t.NoResults) b = with_none p
@@ -70,3 +78,6 @@ plain_is_right ds main h = (whole ds main h).nothing
 
 pub plain_prints : (ds : List t.Decl) (main : Main) → main_in ds ≡ Some main → PrintsLines (program_of ds) main.texts
 plain_prints ds main h = (whole ds main h).lines
+
+pub plain_only_prints : (ds : List t.Decl) (main : Main) → main_in ds ≡ Some main → only_prints (program_of ds) ≡ true
+plain_only_prints ds main h = (whole ds main h).alone

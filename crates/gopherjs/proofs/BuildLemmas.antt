@@ -1,5 +1,5 @@
 -- What the stages of a build say of the files.
-use Rattle.std.proofs.Common.{◌≡◌, ◌<◌, List, ℕ, length, refl, sym, ap, subst, inl, inr}
+use Rattle.std.proofs.Common.{◌≡◌, ◌<◌, List, [], ◌∷◌, ℕ, true, length, refl, sym, ap, subst, ◌∙◌, append-nil, inl, inr}
 use Rattle.std.specs.Prelude.{Option, Some, None, IfSome, Result, Ok, Err}
 use Rattle.gj_base.specs.Tree.{Tree}
 use Rattle.gj_base.specs.Files.{FilesState, Stores}
@@ -11,12 +11,18 @@ use Rattle.go_load.specs.declared.sources.FileEntry.{FileEntry}
 use Rattle.go_load.specs.declared.packages.Packages.{Packages}
 use Rattle.go_load.specs.declared.packages.LoadRefusal.{LoadRefusal}
 use Rattle.go_load.specs.declared.packages.LoadRefusal.TheVariants as load
-use Rattle.go_core.specs.Core.{Program}
+use Rattle.go_core.specs.CoreTree.{CoreProgram, Stmts}
+use Rattle.go_syntax.specs.Tree as t
+use Rattle.go_packages.specs.Checked.{told, program_of}
+use Rattle.go_items.specs.ItemView.{decls_of}
+use Rattle.go_lines.specs.Lines.{PlainIsRight, PlainOnlyPrints, PlainPrints}
 use Rattle.js_tree.specs.Script.{ScriptTree}
 use Rattle.js_emit.specs.Faithful.{Faithful}
+use Rattle.js_emit.specs.Emitted.{script_of, body_in, body_of_main}
+use Rattle.js_emit.specs.Lines.{print_lines}
+use Rattle.js_emit.specs.Prints.{only_prints}
 use Rattle.gj_plain.specs.Plain as p
-use Rattle.gj_plain.specs.Plain.{plain_main}
-use Rattle.gj_plain.specs.Printing.{program_of}
+use Rattle.gj_plain.specs.Plain.{plain_main, main_in}
 use Rattle.gopherjs.specs.Answers.{out_file, HaveTrees, HoldsProgram, Builds}
 use Rattle.gopherjs.specs.Builds.{root_trees, main_of, StoresMain, BuildsPackages, Refuses, CanBeTold}
 use Rattle.gopherjs.specs.declared.build.Refused.{Refused}
@@ -34,24 +40,49 @@ have_trees packages some are = record {
   all = ap root_trees are.root;
 }
 
--- the folder holds the program of its `main`
-holds : (tree : Tree) (folder : List ℕ) (packages : Packages) (main : p.Main) → 0 < length packages.files → IsRead (Some tree) folder packages.files → ArePackages packages → main_of packages ≡ Some main
-    → HoldsProgram tree folder (program_of main)
-holds tree folder packages main some read are plain = record {
+-- what holds of all plain packages, and of all programs that only print
+pub record Laws : Type 0 where
+  pub right : PlainIsRight
+  pub prints : PlainPrints
+  pub alone : PlainOnlyPrints
+  pub faithful : (program : CoreProgram) → only_prints program ≡ true → Faithful (script_of (body_of_main program)) program []
+
+-- the declarations of a plain package are those of its one file
+the_main : (trees : List t.File) (main : p.Main) → plain_main trees ≡ Some main → main_in (decls_of trees) ≡ Some main
+the_main [] main h = absurd (cc)
+the_main (file ∷ []) main h = ap main_in (append-nil file.decls) ∙ h
+the_main (file ∷ other ∷ others) main h = absurd (cc)
+
+-- the script that prints the texts of a plain `main` is faithful to the program
+prints_them : Laws → (trees : List t.File) (main : p.Main) (s : ScriptTree) → plain_main trees ≡ Some main → s ≡ script_of (print_lines main.texts) → Faithful s (program_of (decls_of trees)) []
+prints_them laws trees main s plain is =
+    let ds = decls_of trees in
+    let found = the_main trees main plain in
+    let prints = laws.prints ds main found in
+    let body : body_of_main (program_of ds) ≡ print_lines main.texts = ap body_in prints.found ∙ prints.lines in
+    subst (λ (script : ScriptTree). Faithful script (program_of ds) []) (ap script_of body ∙ sym is) (laws.faithful (program_of ds) (laws.alone ds main found))
+
+-- the folder holds the program of its package
+holds : Laws → (tree : Tree) (folder : List ℕ) (packages : Packages) (main : p.Main) → 0 < length packages.files → IsRead (Some tree) folder packages.files → ArePackages packages → main_of packages ≡ Some main
+    → HoldsProgram tree folder (program_of (decls_of (root_trees (paths_view packages.packages))))
+holds laws tree folder packages main some read are plain = record {
   entries = packages.files;
   read = read;
   trees = root_trees (paths_view packages.packages);
   have = have_trees packages some are;
+  right = laws.right (decls_of (root_trees (paths_view packages.packages))) main (the_main (root_trees (paths_view packages.packages)) main plain);
   main = main;
   plain = plain;
   is = refl;
 }
 
 -- a script that is faithful to that program
-compiles : (o : Option Tree) (folder : List ℕ) (packages : Packages) (main : p.Main) (s : ScriptTree) → 0 < length packages.files → IsRead o folder packages.files → ArePackages packages → main_of packages ≡ Some main
-    → Faithful s (program_of main) → IfSome o (λ tree. (program : Program) × HoldsProgram tree folder program × Faithful s program)
-compiles None folder packages main s some read are plain faithful = tt
-compiles (Some tree) folder packages main s some read are plain faithful = (program_of main, holds tree folder packages main some read are plain, faithful)
+compiles : Laws → (o : Option Tree) (folder : List ℕ) (packages : Packages) (main : p.Main) (s : ScriptTree) → 0 < length packages.files → IsRead o folder packages.files → ArePackages packages → main_of packages ≡ Some main
+    → s ≡ script_of (print_lines main.texts) → IfSome o (λ tree. (program : CoreProgram) × HoldsProgram tree folder program × Faithful s program [])
+compiles laws None folder packages main s some read are plain is = tt
+compiles laws (Some tree) folder packages main s some read are plain is =
+    let trees = root_trees (paths_view packages.packages) in
+    (program_of (decls_of trees), holds laws tree folder packages main some read are plain, prints_them laws trees main s plain is)
 
 -- what comes of packages with a plain root
 pub builds_main : (r : Result (Unit {0}) Refused) (packages : Packages) (main : p.Main) (old new : FilesState) → main_of packages ≡ Some main → StoresMain r main old new → BuildsPackages r packages old new
@@ -62,20 +93,20 @@ builds_main (Err refused.WriteFault) packages main old new found stored = (main,
 builds_main (Err refused.NoMemory) packages main old new found stored = stored
 
 -- what comes of packages
-pub builds : (r : Result (Unit {0}) Refused) (folder : List ℕ) (packages : Packages) (old new : FilesState) → 0 < length packages.files → IsRead old.tree folder packages.files → ArePackages packages
+pub builds : Laws → (r : Result (Unit {0}) Refused) (folder : List ℕ) (packages : Packages) (old new : FilesState) → 0 < length packages.files → IsRead old.tree folder packages.files → ArePackages packages
     → BuildsPackages r packages old new → Builds r folder old new
-builds (Ok u) folder packages old new some read are built =
-    (built.2.1.0, compiles old.tree folder packages built.0 built.2.1.0 some read are built.1 built.2.1.2, subst (λ (text : List ℕ). Stores (Ok tt) out_file text old new) built.2.1.1 built.2.2)
-builds (Err (refused.Fault fault entries)) folder packages old new some read are (same, files, unlike, is) = (
+builds laws (Ok u) folder packages old new some read are built =
+    (built.2.1.0, compiles laws old.tree folder packages built.0 built.2.1.0 some read are built.1 built.2.1.2, subst (λ (text : List ℕ). Stores (Ok tt) out_file text old new) built.2.1.1 built.2.2)
+builds laws (Err (refused.Fault fault entries)) folder packages old new some read are (same, files, unlike, is) = (
   same,
   subst (λ (es : List FileEntry). 0 < length es) (sym files) some,
   subst (λ (es : List FileEntry). IsRead old.tree folder es) (sym files) read,
   inr (record { trees = root_trees (paths_view packages.packages); have = subst (λ (es : List FileEntry). HaveTrees es (root_trees (paths_view packages.packages))) (sym files) (have_trees packages some are); unlike = unlike; is = is }),
 )
-builds (Err refused.ReadFault) folder packages old new some read are built = absurd built
-builds (Err refused.WriteFault) folder packages old new some read are built =
-    (built.2.1.0, compiles old.tree folder packages built.0 built.2.1.0 some read are built.1 built.2.1.2, subst (λ (text : List ℕ). Stores (Err Failed) out_file text old new) built.2.1.1 built.2.2)
-builds (Err refused.NoMemory) folder packages old new some read are built = built
+builds laws (Err refused.ReadFault) folder packages old new some read are built = absurd built
+builds laws (Err refused.WriteFault) folder packages old new some read are built =
+    (built.2.1.0, compiles laws old.tree folder packages built.0 built.2.1.0 some read are built.1 built.2.1.2, subst (λ (text : List ℕ). Stores (Err Failed) out_file text old new) built.2.1.1 built.2.2)
+builds laws (Err refused.NoMemory) folder packages old new some read are built = built
 
 -- what comes of a load without packages
 pub not_loaded : (refusal : LoadRefusal) (r : Refused) (folder : List ℕ) (old new : FilesState) → Refuses refusal r → Loads (Err refusal) folder old new → Builds (Err r) folder old new

@@ -13,7 +13,7 @@ use Rattle.go_load.specs.Readings.{Reading, AreReadings, trees_of}
 use Rattle.go_load.specs.Faults.{stage_faults}
 use Rattle.go_load.specs.Load.{IsFaultOf, large, staged}
 use Rattle.go_load.specs.declared.sources.FileEntry.{FileEntry}
-use Rattle.go_core.specs.Core.{Program}
+use Rattle.go_core.specs.CoreTree.{CoreProgram}
 use Rattle.js_tree.specs.Script.{ScriptTree}
 use Rattle.js_tree.specs.Printed.{plain}
 use Rattle.js_emit.specs.Faithful.{Faithful}
@@ -41,8 +41,8 @@ appended-nil sink = ap (λ (bytes : Option (List ℕ)). record sink { bytes = by
 pub headline : (settings : Option Settings) (folder : List ℕ) (old new : FilesState) → settings ≡ Some (build folder) → StoresScript folder old new → Headline Done settings old new
 headline settings folder old new named stored = λ done. by old.tree stored.1 (ap (λ (s : FilesState). s.tree) stored.2)
   where
-    by : (o : Option Tree) → IfSome o (λ tree. (program : Program) × HoldsProgram tree folder program × Faithful stored.0 program) → new.tree ≡ option_map (λ tree. with_file tree out_file (plain stored.0)) o
-        → IfSome o (λ tree. (folder : List ℕ) × (program : Program) × (s : ScriptTree) × (settings ≡ Some (build folder)) × HoldsProgram tree folder program × Faithful s program × (new.tree ≡ Some (with_file tree out_file (plain s))))
+    by : (o : Option Tree) → IfSome o (λ tree. (program : CoreProgram) × HoldsProgram tree folder program × Faithful stored.0 program []) → new.tree ≡ option_map (λ tree. with_file tree out_file (plain stored.0)) o
+        → IfSome o (λ tree. (folder : List ℕ) × (program : CoreProgram) × (s : ScriptTree) × (settings ≡ Some (build folder)) × HoldsProgram tree folder program × Faithful s program [] × (new.tree ≡ Some (with_file tree out_file (plain s))))
     by None c e = c
     by (Some tree) c e = (folder, c.0, stored.0, named, c.1, c.2, e)
 
@@ -57,7 +57,7 @@ some_is : (a b : Main) → (let o : Option Main = Some a in o) ≡ Some b → a 
 some_is a b e = cc
 
 -- a folder that holds a program has no fault that is told
-pub not_faulty : DerivesOneFile → (tree : Tree) (folder : List ℕ) (program : Program) (fault : Fault) (entries : List FileEntry) → HoldsProgram tree folder program → IsRead (Some tree) folder entries → IsToldFault entries fault → ⊥
+pub not_faulty : DerivesOneFile → (tree : Tree) (folder : List ℕ) (program : CoreProgram) (fault : Fault) (entries : List FileEntry) → HoldsProgram tree folder program → IsRead (Some tree) folder entries → IsToldFault entries fault → ⊥
 not_faulty one tree folder program fault entries holds read told =
     let same : entries ≡ holds.entries = same_files tree folder entries holds.entries read holds.read holds.have.small in
     by (subst (λ (es : List FileEntry). IsToldFault es fault) same told)
@@ -91,7 +91,7 @@ completes one settings folder refused answer line old new named told built = λ 
     same_folder e = cc
 
     Goal : Option Tree → List ℕ → Type 0
-    Goal o other = IfSome o (λ tree. (program : Program) → HoldsProgram tree other program → (Rose old.reading_faults new.reading_faults → ⊥) → (Rose old.storing_faults new.storing_faults → ⊥) → (answer ≡ Done) ⊎ (answer ≡ outcome.NoMemory))
+    Goal o other = IfSome o (λ tree. (program : CoreProgram) → HoldsProgram tree other program → (Rose old.reading_faults new.reading_faults → ⊥) → (Rose old.storing_faults new.storing_faults → ⊥) → (answer ≡ Done) ⊎ (answer ≡ outcome.NoMemory))
 
     always : (o : Option Tree) (other : List ℕ) → answer ≡ outcome.NoMemory → Goal o other
     always None other e = tt

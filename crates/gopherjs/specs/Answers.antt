@@ -10,12 +10,13 @@ use Rattle.go_load.specs.Readings.{Reading, AreReadings, trees_of}
 use Rattle.go_load.specs.Faults.{fault_in, stage_faults}
 use Rattle.go_load.specs.Load.{IsFaultOf, FailsToRead}
 use Rattle.go_load.specs.declared.sources.FileEntry.{FileEntry}
-use Rattle.go_core.specs.Core.{Program}
+use Rattle.go_core.specs.CoreTree.{CoreProgram}
+use Rattle.go_packages.specs.Checked.{told, program_of}
+use Rattle.go_items.specs.ItemView.{decls_of}
 use Rattle.js_tree.specs.Script.{ScriptTree}
 use Rattle.js_tree.specs.Printed.{plain}
 use Rattle.js_emit.specs.Faithful.{Faithful}
 use Rattle.gj_plain.specs.Plain.{Main, plain_main}
-use Rattle.gj_plain.specs.Printing.{program_of}
 use Rattle.gopherjs.specs.declared.build.Refused.{Refused}
 use Rattle.gopherjs.specs.declared.build.Refused.TheVariants as refused
 
@@ -32,15 +33,16 @@ pub record HaveTrees (entries : List FileEntry) (trees : List t.File) : Type 0 w
   pub none : stage_faults readings ≡ []
   pub all : trees ≡ trees_of readings
 
--- the folder holds this program: its `.go` files have no fault, and their package is plain
-pub record HoldsProgram (tree : Tree) (folder : List ℕ) (program : Program) : Type 0 where
+-- the folder holds this program: its `.go` files have no fault, of their declarations nothing is told, and their package is plain
+pub record HoldsProgram (tree : Tree) (folder : List ℕ) (program : CoreProgram) : Type 0 where
   pub entries : List FileEntry
   pub read : IsRead (Some tree) folder entries
   pub trees : List t.File
   pub have : HaveTrees entries trees
+  pub right : told (decls_of trees) ≡ []
   pub main : Main
   pub plain : plain_main trees ≡ Some main
-  pub is : program ≡ program_of main
+  pub is : program ≡ program_of (decls_of trees)
 
 -- F0, at the start of the root's first file
 abbrev pub unbuilt_fault : Fault
@@ -59,7 +61,7 @@ IsToldFault entries fault = IsFaultOf entries fault ⊎ AreUnbuilt entries fault
 
 -- the script is faithful to the program that the folder holds, where the tree is told
 abbrev pub Compiles : List ℕ → FilesState → ScriptTree → Type 0
-Compiles folder old s = IfSome old.tree (λ tree. (program : Program) × HoldsProgram tree folder program × Faithful s program)
+Compiles folder old s = IfSome old.tree (λ tree. (program : CoreProgram) × HoldsProgram tree folder program × Faithful s program [])
 
 -- the text of such a script is stored, and all other paths stay
 abbrev pub StoresScript : List ℕ → FilesState → FilesState → Type 0

@@ -10,10 +10,10 @@ use Rattle.go_load.specs.declared.packages.LoadRefusal.{LoadRefusal}
 use Rattle.go_load.specs.declared.packages.LoadRefusal.TheVariants as load
 use Rattle.js_tree.specs.Script.{ScriptTree}
 use Rattle.js_tree.specs.Printed.{plain}
-use Rattle.js_emit.specs.Faithful.{Faithful}
+use Rattle.js_emit.specs.Emitted.{script_of}
+use Rattle.js_emit.specs.Lines.{print_lines}
 use Rattle.gj_plain.specs.Plain as p
 use Rattle.gj_plain.specs.Plain.{plain_main}
-use Rattle.gj_plain.specs.Printing.{program_of}
 use Rattle.gopherjs.specs.Answers.{out_file, unbuilt_fault}
 use Rattle.gj_plain.specs.declared.plain.Main.{Main}
 use Rattle.gj_plain.specs.MainView.{main_view}
@@ -29,9 +29,9 @@ root_trees (root ∷ others) = root.1.files
 abbrev pub main_of : Packages → Option p.Main
 main_of packages = plain_main (root_trees (paths_view packages.packages))
 
--- the text of a script that is faithful to the program of this `main`
+-- the text of the script that prints the texts of this `main`
 abbrev pub IsCompiled : p.Main → List ℕ → Type 0
-IsCompiled main text = (s : ScriptTree) × (text ≡ plain s) × Faithful s (program_of main)
+IsCompiled main text = (s : ScriptTree) × (text ≡ plain s) × (s ≡ script_of (print_lines main.texts))
 
 -- such a text is stored
 abbrev pub StoresMain : Result (Unit {0}) Refused → p.Main → FilesState → FilesState → Type 0

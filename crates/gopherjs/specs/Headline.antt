@@ -3,7 +3,7 @@ use Rattle.std.specs.Prelude.{◌≡◌, ◌⊎◌, ◌++◌, List, [], ◌∷�
 use Rattle.gj_base.specs.Counts.{Rose}
 use Rattle.gj_base.specs.Files.{FilesState}
 use Rattle.gj_base.specs.declared.fault.Fault.{Fault}
-use Rattle.go_core.specs.Core.{Program}
+use Rattle.go_core.specs.CoreTree.{CoreProgram}
 use Rattle.gopherjs.specs.Settings.{Settings, build}
 use Rattle.gj_base.specs.Tree.{with_file}
 use Rattle.js_tree.specs.Script.{ScriptTree}
@@ -68,12 +68,12 @@ TreeStays _ old new = new.tree ≡ old.tree
 
 -- where `build` answers Done, what is stored is the text of a script that is faithful to the program of the folder
 abbrev pub Headline : Outcome → Option Settings → FilesState → FilesState → Type 0
-Headline answer settings old new = answer ≡ Done → IfSome old.tree (λ tree. (folder : List ℕ) × (program : Program) × (s : ScriptTree)
-    × (settings ≡ Some (build folder)) × HoldsProgram tree folder program × Faithful s program × (new.tree ≡ Some (with_file tree out_file (plain s))))
+Headline answer settings old new = answer ≡ Done → IfSome old.tree (λ tree. (folder : List ℕ) × (program : CoreProgram) × (s : ScriptTree)
+    × (settings ≡ Some (build folder)) × HoldsProgram tree folder program × Faithful s program [] × (new.tree ≡ Some (with_file tree out_file (plain s))))
 
 -- where the folder holds a program and no call fails, `build` answers Done or that memory ran out
 abbrev pub IsComplete : Outcome → Option Settings → FilesState → FilesState → Type 0
-IsComplete answer settings old new = (folder : List ℕ) → settings ≡ Some (build folder) → IfSome old.tree (λ tree. (program : Program) → HoldsProgram tree folder program
+IsComplete answer settings old new = (folder : List ℕ) → settings ≡ Some (build folder) → IfSome old.tree (λ tree. (program : CoreProgram) → HoldsProgram tree folder program
     → (Rose old.reading_faults new.reading_faults → ⊥) → (Rose old.storing_faults new.storing_faults → ⊥) → (answer ≡ Done) ⊎ (answer ≡ NoMemory))
 
 -- what is told of a build that stored nothing whole; want of memory may come instead

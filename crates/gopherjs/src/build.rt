@@ -9,11 +9,11 @@ ghost use Rattle.gopherjs.specs.Builds.{root_trees, IsCompiled, StoresMain, Buil
 
 use gj_base::{Fault, Files, NoMemory, Place, StoreError, Text};
 use gj_plain::plain::{Main, plain_main};
-use gj_plain::program::program_of;
-use go_core::{FuncSet, Order};
+use go_lines::laws::plain;
 use go_load::{LoadRefusal, Packages, Paths, Sources, load};
 use go_syntax::tree::File;
-use js_emit::emit;
+use js_emit::laws::prints;
+use js_emit::script_of_lines;
 use js_tree::{Style, printed};
 use std::alloc::Global;
 
@@ -51,6 +51,8 @@ impl From<NoMemory> for Refused {
 pub fn build<F: Files>(alloc: Global, folder: &str, files: &mut F) -> Result<(), Refused>
     ensures { Builds result folder.now (F.state files.old) (F.state files.new) }
 {
+    plain();
+    prints();
     match load(alloc, files, folder, SOURCE_FOLDER) {
         Ok(packages) => build_packages(alloc, packages, files),
         Err(refusal) => Err(unloaded(refusal)),
@@ -101,7 +103,7 @@ fn unbuilt(alloc: Global) -> Fault
     }
 }
 
-/// Compiles the program of this `main`, and stores its script.
+/// Compiles this `main`, and stores its script.
 fn store_program<F: Files>(alloc: Global, main: Main, files: &mut F) -> Result<(), Refused>
     ensures { StoresMain result (main_view main) (F.state files.old) (F.state files.new) }
 {
@@ -113,11 +115,10 @@ fn store_program<F: Files>(alloc: Global, main: Main, files: &mut F) -> Result<(
     }
 }
 
-/// The text of a script that is faithful to the program of this `main`.
+/// The text of the script that prints the texts of this `main`.
 fn compile(alloc: Global, main: Main) -> Result<Text, NoMemory>
     ensures { IfOk result (λ text. IsCompiled (main_view main) text) }
 {
-    let program = program_of(alloc, main)?;
-    let script = emit(alloc, &program, &Order::new(alloc), &FuncSet::new(alloc))?;
+    let script = script_of_lines(alloc, main.texts.as_slice())?;
     printed(alloc, &script, Style::Plain)
 }

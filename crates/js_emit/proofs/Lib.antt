@@ -1,2 +1,4 @@
-pub mod Simulation
-pub mod Printing
+mod Simulation
+mod Printing
+mod ListLemmas
+mod Views

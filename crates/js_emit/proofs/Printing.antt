@@ -37,3 +37,7 @@ fits_after [] ts s e p q = ap (λ (all : List Stmt). stmts_fit 1 (stmts_of all))
 fits_after (x ∷ ss) ts s e p q =
     ap (λ (all : List Stmt). stmts_fit 1 (stmts_of all)) e
     ∙ both (stmt_fits 1 x) (stmts_fit 1 (stmts_of (ss ++ s ∷ []))) (first _ _ q) (fits_after ss (ss ++ s ∷ []) s refl p (second (stmt_fits 1 x) _ q))
+
+-- a text with one byte after it
+pub byte_after : (xs ys : List ℕ) (b : ℕ) → ys ≡ xs ++ b ∷ [] → is_byte b ≡ true → list_all is_byte xs ≡ true → list_all is_byte ys ≡ true
+byte_after xs ys b e p q = bytes_after xs (b ∷ []) ys e (both (is_byte b) true p refl) q

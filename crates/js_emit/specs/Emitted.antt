@@ -1,12 +1,12 @@
 -- The script of a program that only prints: one call of `$write` for each print.
-use Rattle.std.specs.Prelude.{◌≡◌, ◌++◌, List, [], ◌∷◌, ℕ, codes, IsTrue}
+use Rattle.std.specs.Prelude.{◌++◌, List, [], ◌∷◌, ℕ, Bool, true, false, codes, IsTrue, Option, Some, None, slice_get}
 use Rattle.js_tree.specs.Script.{Name, name, string, call, no_exprs, expr, perform, Function, function_item, ScriptTree}
 use Rattle.js_tree.specs.Script as script
 use Rattle.js_tree.specs.View.{stmts_of}
 use Rattle.js_tree.specs.Printable.{stmts_fit}
-use Rattle.go_core.specs.Core.{constant, Exprs, sequence, print, Func, Program}
-use Rattle.go_core.specs.Core as core
-use Rattle.go_core.specs.GoRun.{output_of}
+use Rattle.go_core.specs.CoreTree as core
+use Rattle.go_core.specs.CoreTree.{Expr, Exprs, Stmt, Stmts, CoreFunc, CoreProgram, text_constant}
+use Rattle.go_core.specs.Text.{line_of, joined}
 
 -- own: the function that the script begins with
 abbrev pub start_name : Name
@@ -19,37 +19,51 @@ write_name = codes "$write"
 abbrev pub write_of : List ℕ → script.Stmt
 write_of bytes = perform 0 (call 0 (name 0 write_name) (expr (string 0 bytes) no_exprs))
 
--- what a constant prints
-abbrev pub text_in : core.Expr → List ℕ
-text_in (constant bytes) = bytes
+-- what a constant string prints
+abbrev pub text_in : Expr → List ℕ
+text_in (core.constant t (text_constant bytes)) = bytes
+text_in _ = []
 
 -- the texts of operands
-abbrev pub texts_of : Exprs → List (List ℕ)
-texts_of core.no_exprs = []
-texts_of (core.expr e es) = text_in e ∷ texts_of es
+abbrev pub texts_in : Exprs → List (List ℕ)
+texts_in core.no_exprs = []
+texts_in (core.expr e es) = text_in e ∷ texts_in es
 
-abbrev mutual
-  -- the calls that a statement becomes
-  pub writes_of : core.Stmt → List script.Stmt
-  writes_of (sequence ss) = all_writes_of ss
-  writes_of (print operands ends_line) = write_of (output_of ends_line (texts_of operands)) ∷ []
+-- what is printed of operands
+abbrev pub output : Bool → List (List ℕ) → List ℕ
+output true texts = line_of texts
+output false texts = joined texts
 
-  pub all_writes_of : core.Stmts → List script.Stmt
-  all_writes_of core.no_stmts = []
-  all_writes_of (core.stmt s ss) = writes_of s ++ all_writes_of ss
+-- the call that a print becomes
+abbrev pub writes_of : Stmt → List script.Stmt
+writes_of (core.print es ends_line) = write_of (output ends_line (texts_in es)) ∷ []
+writes_of _ = []
+
+abbrev pub all_writes_of : Stmts → List script.Stmt
+all_writes_of core.no_stmts = []
+all_writes_of (core.stmt s ss) = writes_of s ++ all_writes_of ss
 
 -- the start function, whose body is that of `main`
-abbrev pub start_of : core.Stmt → Function
-start_of body = record { name = start_name; params = []; body = stmts_of (writes_of body); at = 0 }
+abbrev pub start_with : List script.Stmt → Function
+start_with calls = record { name = start_name; params = []; body = stmts_of calls; at = 0 }
 
-abbrev pub script_of : core.Stmt → ScriptTree
-script_of body = record { items = function_item (start_of body) ∷ []; start = start_name; start_at = 0 }
+abbrev pub script_with : List script.Stmt → ScriptTree
+script_with calls = record { items = function_item (start_with calls) ∷ []; start = start_name; start_at = 0 }
 
--- the program's one function is `main`
-pub record OnlyMain (program : Program) : Type 0 where
-  pub function : Func
-  pub alone : program.funcs ≡ function ∷ []
-  pub first : program.main ≡ 0
+abbrev pub start_of : Stmts → Function
+start_of body = start_with (all_writes_of body)
+
+abbrev pub script_of : Stmts → ScriptTree
+script_of body = script_with (all_writes_of body)
+
+-- the body of a function, where there is one
+abbrev pub body_in : Option CoreFunc → Stmts
+body_in None = core.no_stmts
+body_in (Some f) = f.body
+
+-- the body of `main`
+abbrev pub body_of_main : CoreProgram → Stmts
+body_of_main p = body_in (slice_get p.funcs p.main)
 
 -- each statement can be printed as one of a function's body
 abbrev pub AllFit : List script.Stmt → Type 0

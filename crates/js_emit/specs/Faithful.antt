@@ -4,9 +4,10 @@ use Rattle.js_tree.specs.Script.{ScriptTree}
 use Rattle.js_tree.specs.ScriptRun.{ScriptResult, script_run}
 use Rattle.js_tree.specs.Value.{Going, Ended, Stuck}
 use Rattle.js_tree.specs.Value as script
-use Rattle.go_core.specs.Core.{Program}
-use Rattle.go_core.specs.GoRun.{State, IsReached, going, exit, panicked, fatal}
-use Rattle.go_core.specs.GoRun as go
+use Rattle.go_core.specs.CoreTree.{CoreProgram, InitStep}
+use Rattle.go_core.specs.Goroutine.{State, going, exit, panicked, fatal}
+use Rattle.go_core.specs.Goroutine as go
+use Rattle.go_core.specs.Run.{IsReached}
 
 -- the line that tells why a run ended with status 2
 abbrev pub report : List ℕ → List ℕ → List ℕ
@@ -27,6 +28,6 @@ pub record Matches (result : ScriptResult) (state : State) : Type 0 where
   pub ends : EndsAlike result.end state.end
   pub within : result.ticks ≤ 4096 * ((state.units + 1) * (state.units + 1))
 
--- for all choices and any number of ticks
-abbrev pub Faithful : ScriptTree → Program → Type 0
-Faithful s program = (choices : List ℕ) (ticks : ℕ) → (state : State) × IsReached program choices state × Matches (script_run s choices ticks) state
+-- for all choices and any number of ticks, with this order of initialisation
+abbrev pub Faithful : ScriptTree → CoreProgram → List InitStep → Type 0
+Faithful s program order = (choices : List ℕ) (ticks : ℕ) → (state : State) × IsReached program order choices state × Matches (script_run s choices ticks) state

@@ -1,2 +1,4 @@
 pub mod Faithful
+pub mod Prints
 pub mod Emitted
+pub mod Lines

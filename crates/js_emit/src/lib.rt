@@ -1,11 +1,16 @@
-//! The translation of a whole program to a script.
+//! The script of a program.
 //!
 //! `specs/Faithful.antt` says when a script is right: it is the statement to read first.
-//! `specs/Emitted.antt` is the script that is made, and `proofs/Simulation.antt` shows that it is
-//! faithful.
+//! `specs/Prints.antt` says which programs are translated so far, `specs/Emitted.antt` is the script
+//! that is made, and `proofs/Simulation.antt` shows that it is faithful.
 #![tactic(auto)]
 
+pub mod kind;
+pub mod laws;
+pub mod lines;
 mod output;
-mod script;
+pub mod script;
 
-pub use crate::script::emit;
+pub use kind::only_prints;
+pub use lines::script_of_lines;
+pub use script::emit;

@@ -1,4 +1,0 @@
-mod Simulation
-mod Printing
-mod ListLemmas
-mod Views

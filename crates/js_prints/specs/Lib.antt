@@ -1,3 +1,0 @@
-pub mod Faithful
-pub mod Prints
-pub mod Emitted
