@@ -1,7 +1,3 @@
-pub mod Core
-pub mod View
-pub mod GoRun
-pub mod Rows
 pub mod Layout
 pub mod SameType
 pub mod Untagged

@@ -1,10 +1,9 @@
 //! The core program, which the checker gives and the translation takes, and what it means in Go.
 //!
-//! `specs/Core.antt` has the tree that contracts see, `specs/GoRun.antt` its runs (The Go
+//! `specs/CoreTree.antt` has the tree that contracts see, `specs/Run.antt` its runs (The Go
 //! Programming Language Specification as of Go 1.17, "Program initialization and execution").
 #![tactic(auto)]
 
-pub mod laws;
 pub mod meaning;
 pub mod node;
 pub mod program;
@@ -12,6 +11,4 @@ pub mod statement;
 pub mod tree;
 pub mod typing;
 
-pub use tree::{
-    CoreExpr, CoreExprs, CoreStmt, CoreStmts, Func, FuncId, FuncSet, Funcs, Order, Program,
-};
+pub use tree::{FuncId, FuncSet, Order};
