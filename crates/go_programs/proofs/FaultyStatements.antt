@@ -1,5 +1,6 @@
 -- Exactly the faulty statements of a body are told.
 use Rattle.std.proofs.Common.{◌≡◌, ◌⊎◌, ◌↔◌, inl, ◌&&◌, ◌||◌, ℕ, suc, List, [], ◌∷◌, ◌++◌, refl, sym, subst, Bool, true, false, not, Option, Some, None}
+use Rattle.gj_base.specs.declared.place.Place.{Place}
 use Rattle.go_syntax.specs.Tree as t
 use Rattle.go_const.specs.declared.constant.Const.{Const}
 use Rattle.go_type.specs.Tree as ty
@@ -10,8 +11,8 @@ use Rattle.go_typing.specs.Faulty.{IsIn, HasFault}
 use Rattle.go_statements.specs.Walk.{Walk, Around, Did, fresh, pushed, within, uses, uses_all, unused}
 use Rattle.go_statements.specs.Expressions.{flaws_in, value_alone, condition, type_of}
 use Rattle.go_statements.specs.Labels.{label_of, labels_told}
-use Rattle.go_statements.specs.Statements.{unlabeled, with_target, next_label, condition_told, condition_uses, post_did, tag_of, case_answer, case_constant, repeated, repeated_flaws, and_constant, case_tests, Clauses, default_flaws, falls, is_last, is_default, switch_did, stmt, maybe, block, stmts, clause_stmts, clauses, missing_return, where_clean}
-use Rattle.go_programs.specs.FaultyStatements.{HasConditionFault, HasPostFault, HasTagFault, tag_type, SomeCaseFault, HasStmtFault, HasMaybeFault, HasBlockFault, HasStmtsFault, HasClauseFault, HasClausesFault, StatementsToldExactly, BodiesToldExactly}
+use Rattle.go_statements.specs.Statements.{unlabeled, with_target, next_label, condition_told, condition_uses, post_did, tag_of, case_answer, case_constant, repeated, repeated_flaws, and_constant, case_tests, Clauses, default_flaws, falls, is_last, is_default, switch_did, stmt, maybe, block, stmts, clause_stmts, clauses, many_told, missing_return, where_clean}
+use Rattle.go_programs.specs.FaultyStatements.{HasConditionFault, HasPostFault, HasTagFault, tag_type, SomeCaseFault, HasStmtFault, HasMaybeFault, HasBlockFault, HasStmtsFault, HasClauseFault, HasClausesFault, PartOrWhole, StatementsToldExactly, BodiesToldExactly}
 use Rattle.go_programs.proofs.Exactly.{both, same, one, node_exact}
 
 module _ (f : Flaw) where
@@ -69,84 +70,95 @@ module _ (f : Flaw) where
   second_default fs g false c p q r = (λ h. absurd (subst (IsIn f) (q refl) h), λ k. let e : false ≡ true = k.0 in cc)
   second_default fs g true false p q r = (λ h. absurd (subst (IsIn f) (r refl) h), λ k. let e : false ≡ true = k.1 in cc)
 
-  mutual
-    pub stmt_exact : (s : t.Stmt) (a : Around) (w : Walk) → IsIn f (stmt s a w).flaws ↔ HasStmtFault s a w f
-    stmt_exact (t.EmptyStmt at) a w = same f ⊥
-    stmt_exact (t.ExprStmt at xs) a w = same f _
-    stmt_exact (t.SendStmt at xs y) a w = one f (flaw at 0)
-    stmt_exact (t.IncDecStmt at xs up) a w = same f _
-    stmt_exact (t.AssignStmt at xs None ys) a w = same f _
-    stmt_exact (t.AssignStmt at xs (Some op) ys) a w = same f _
-    stmt_exact (t.DefineStmt at xs ys) a w = same f _
-    stmt_exact (t.DeclStmt at d) a w = same f _
-    stmt_exact (t.BlockStmt at b) a w = block_exact b (unlabeled a) w
-    stmt_exact (t.IfStmt at init x b other) a w =
-        let d = maybe init (unlabeled a) (pushed w) in
-        let c = condition d.walk x in
-        let e = block b (unlabeled a) (uses x d.walk) in
-        let g = maybe other (unlabeled a) e.walk in
-        both f (d.flaws ++ c.flaws ++ e.flaws) g.flaws _ _
-        (both f (d.flaws ++ c.flaws) e.flaws _ _ (both f d.flaws c.flaws _ _ (maybe_exact init (unlabeled a) (pushed w)) (same f (IsIn f c.flaws))) (block_exact b (unlabeled a) (uses x d.walk))) (maybe_exact other (unlabeled a) e.walk)
-    stmt_exact (t.ForStmt at init x post b) a w =
-        let d = maybe init (unlabeled a) (pushed w) in
-        let u = condition_uses x d.walk in
-        let q = post_did post (maybe post (unlabeled a)) u in
-        let e = block b (with_target (pushed w).next_label true a) (next_label q.walk) in
-        both f (d.flaws ++ condition_told d.walk x ++ q.flaws) e.flaws _ _
-        (both f (d.flaws ++ condition_told d.walk x) q.flaws _ _ (both f d.flaws (condition_told d.walk x) _ _ (maybe_exact init (unlabeled a) (pushed w)) (condition_exact f d.walk x))
-        (post_exact f post (maybe post (unlabeled a)) u (HasMaybeFault post (unlabeled a) u f) (maybe_exact post (unlabeled a) u)))
-        (block_exact b (with_target (pushed w).next_label true a) (next_label q.walk))
-    stmt_exact (t.RangeStmt at xs is_new y b) a w = one f (flaw at 0)
-    stmt_exact (t.SwitchStmt at init x cs) a w =
-        switch_exact f x (maybe init (unlabeled a)) (λ tag u label. clauses cs (with_target label false a) tag u 0 [] false) (pushed w) _ _ (maybe_exact init (unlabeled a) (pushed w))
-        (clauses_exact cs (with_target (condition_uses x (maybe init (unlabeled a) (pushed w)).walk).next_label false a) (condition_uses x (maybe init (unlabeled a) (pushed w)).walk).next (tag_of (maybe init (unlabeled a) (pushed w)).walk x).type_ 0 [] false
-        (next_label (fresh (tag_type (tag_of (maybe init (unlabeled a) (pushed w)).walk x).type_) (condition_uses x (maybe init (unlabeled a) (pushed w)).walk))))
-    stmt_exact (t.TypeSwitchStmt at init n x cs) a w = one f (flaw at 0)
-    stmt_exact (t.SelectStmt at cs) a w = one f (flaw at 0)
-    stmt_exact (t.GoStmt at x) a w = one f (flaw at 0)
-    stmt_exact (t.DeferStmt at x) a w = one f (flaw at 0)
-    stmt_exact (t.ReturnStmt at ys) a w = same f _
-    stmt_exact (t.BreakStmt at n) a w = same f _
-    stmt_exact (t.ContinueStmt at n) a w = same f _
-    stmt_exact (t.FallthroughStmt at) a w = one f (flaw at 91)
-    stmt_exact (t.LabeledStmt at n s) a w = stmt_exact s (record a { label = label_of n }) w
-
-    maybe_exact : (s : t.MaybeStmt) (a : Around) (w : Walk) → IsIn f (maybe s a w).flaws ↔ HasMaybeFault s a w f
-    maybe_exact t.NoStmt a w = same f ⊥
-    maybe_exact (t.AStmt s) a w = stmt_exact s a w
-
-    block_exact : (b : t.Block) (a : Around) (w : Walk) → IsIn f (block b a w).flaws ↔ HasBlockFault b a w f
-    block_exact (t.BlockOf at ss end) a w = stmts_exact ss a (pushed w)
-
-    pub stmts_exact : (ss : t.Stmts) (a : Around) (w : Walk) → IsIn f (stmts ss a w).flaws ↔ HasStmtsFault ss a w f
-    stmts_exact t.NoStmts a w = same f ⊥
-    stmts_exact (t.MoreStmts s ss) a w = both f (stmt s (unlabeled a) w).flaws (stmts ss a (stmt s (unlabeled a) w).walk).flaws _ _ (stmt_exact s (unlabeled a) w) (stmts_exact ss a (stmt s (unlabeled a) w).walk)
-
-    clause_exact : (onward : Bool) (ss : t.Stmts) (a : Around) (w : Walk) → IsIn f (clause_stmts onward ss a w).flaws ↔ HasClauseFault onward ss a w f
-    clause_exact true (t.MoreStmts (t.FallthroughStmt at) t.NoStmts) a w = same f ⊥
-    clause_exact onward t.NoStmts a w = same f ⊥
-    clause_exact onward (t.MoreStmts s ss) a w = both f (stmt s (unlabeled a) w).flaws (clause_stmts onward ss a (stmt s (unlabeled a) w).walk).flaws _ _ (stmt_exact s (unlabeled a) w) (clause_exact onward ss a (stmt s (unlabeled a) w).walk)
-
-    clauses_exact : (cs : t.Clauses) (a : Around) (tag : ℕ) (u : Option Ty) (number : ℕ) (seen : List Const) (had : Bool) (w : Walk) → IsIn f (clauses cs a tag u number seen had w).flaws ↔ HasClausesFault cs a tag u number seen had w f
-    clauses_exact t.NoClauses a tag u number seen had w = same f ⊥
-    clauses_exact (t.MoreClauses at xs ss cs) a tag u number seen had w =
-        let ts = case_tests w tag u number xs seen in
-        let d = within (clause_stmts (falls ss && not (is_last cs)) ss a) (uses_all xs w) in
-        let r = clauses cs a tag u (suc number) ts.seen (is_default xs || had) d.walk in
-        both f (default_flaws at (is_default xs) had ++ ts.flaws ++ d.flaws) r.flaws _ _
-        (both f (default_flaws at (is_default xs) had ++ ts.flaws) d.flaws _ _
-        (both f (default_flaws at (is_default xs) had) ts.flaws _ _
-        (second_default (default_flaws at (is_default xs) had) (flaw at 92) (is_default xs) had (λ d1 e. rw (d1, e) refl) (λ d1. rw d1 refl) (λ e. by_default (is_default xs) had e)) (cases_exact f w tag u number xs seen))
-        (clause_exact (falls ss && not (is_last cs)) ss a (pushed (uses_all xs w))))
-        (clauses_exact cs a tag u (suc number) ts.seen (is_default xs || had) d.walk)
-      where
-        by_default : (b c : Bool) → c ≡ false → default_flaws at b c ≡ []
-        by_default true c e = rw e refl
-        by_default false c e = refl
-
 clean_exact : (fs : List Flaw) (A : Flaw → Type 0) → ((h : Flaw) → IsIn h fs ↔ A h) → (xs : List Flaw) (f : Flaw) → IsIn f (where_clean fs xs) ↔ (((h : Flaw) → A h → ⊥) × IsIn f xs)
 clean_exact [] A p xs f = (λ h. (λ k a. (p k).1 a, h), λ r. r.1)
 clean_exact (g ∷ gs) A p xs f = (λ h. absurd h, λ r. absurd (r.0 g ((p g).0 (inl refl))))
+
+-- a part of a `switch`, or the whole where nothing is told of a part
+part_or_whole : (f : Flaw) (fs : List Flaw) (A : Flaw → Type 0) (at : Place) (cs : t.Clauses) → ((h : Flaw) → IsIn h fs ↔ A h) → IsIn f (fs ++ where_clean fs (many_told at cs)) ↔ PartOrWhole A at cs f
+part_or_whole f fs A at cs p = both f fs (where_clean fs (many_told at cs)) (A f) (((h : Flaw) → A h → ⊥) × IsIn f (many_told at cs)) (p f) (clean_exact fs A p (many_told at cs) f)
+
+mutual
+  pub stmt_exact : (f : Flaw) (s : t.Stmt) (a : Around) (w : Walk) → IsIn f (stmt s a w).flaws ↔ HasStmtFault s a w f
+  stmt_exact f (t.EmptyStmt at) a w = same f ⊥
+  stmt_exact f (t.ExprStmt at xs) a w = same f _
+  stmt_exact f (t.SendStmt at xs y) a w = one f (flaw at 0)
+  stmt_exact f (t.IncDecStmt at xs up) a w = same f _
+  stmt_exact f (t.AssignStmt at xs None ys) a w = same f _
+  stmt_exact f (t.AssignStmt at xs (Some op) ys) a w = same f _
+  stmt_exact f (t.DefineStmt at xs ys) a w = same f _
+  stmt_exact f (t.DeclStmt at d) a w = same f _
+  stmt_exact f (t.BlockStmt at b) a w = block_exact f b (unlabeled a) w
+  stmt_exact f (t.IfStmt at init x b other) a w =
+      let d = maybe init (unlabeled a) (pushed w) in
+      let c = condition d.walk x in
+      let e = block b (unlabeled a) (uses x d.walk) in
+      let g = maybe other (unlabeled a) e.walk in
+      both f (d.flaws ++ c.flaws ++ e.flaws) g.flaws _ _
+      (both f (d.flaws ++ c.flaws) e.flaws _ _ (both f d.flaws c.flaws _ _ (maybe_exact f init (unlabeled a) (pushed w)) (same f (IsIn f c.flaws))) (block_exact f b (unlabeled a) (uses x d.walk))) (maybe_exact f other (unlabeled a) e.walk)
+  stmt_exact f (t.ForStmt at init x post b) a w =
+      let d = maybe init (unlabeled a) (pushed w) in
+      let u = condition_uses x d.walk in
+      let q = post_did post (maybe post (unlabeled a)) u in
+      let e = block b (with_target (pushed w).next_label true a) (next_label q.walk) in
+      both f (d.flaws ++ condition_told d.walk x ++ q.flaws) e.flaws _ _
+      (both f (d.flaws ++ condition_told d.walk x) q.flaws _ _ (both f d.flaws (condition_told d.walk x) _ _ (maybe_exact f init (unlabeled a) (pushed w)) (condition_exact f d.walk x))
+      (post_exact f post (maybe post (unlabeled a)) u (HasMaybeFault post (unlabeled a) u f) (maybe_exact f post (unlabeled a) u)))
+      (block_exact f b (with_target (pushed w).next_label true a) (next_label q.walk))
+  stmt_exact f (t.RangeStmt at xs is_new y b) a w = one f (flaw at 0)
+  stmt_exact f (t.SwitchStmt at init x cs) a w =
+      part_or_whole f (within (switch_did x (maybe init (unlabeled a)) (λ tag u label. clauses cs (with_target label false a) tag u 0 [] false)) w).flaws
+      (λ g.
+      (HasMaybeFault init (unlabeled a) (pushed w) g ⊎ HasTagFault (maybe init (unlabeled a) (pushed w)).walk x g)
+      ⊎ HasClausesFault cs (with_target (condition_uses x (maybe init (unlabeled a) (pushed w)).walk).next_label false a) (condition_uses x (maybe init (unlabeled a) (pushed w)).walk).next (tag_of (maybe init (unlabeled a) (pushed w)).walk x).type_ 0 [] false
+      (next_label (fresh (tag_type (tag_of (maybe init (unlabeled a) (pushed w)).walk x).type_) (condition_uses x (maybe init (unlabeled a) (pushed w)).walk))) g)
+      at cs
+      (λ h.
+      switch_exact h x (maybe init (unlabeled a)) (λ tag u label. clauses cs (with_target label false a) tag u 0 [] false) (pushed w) _ _ (maybe_exact h init (unlabeled a) (pushed w))
+      (clauses_exact h cs (with_target (condition_uses x (maybe init (unlabeled a) (pushed w)).walk).next_label false a) (condition_uses x (maybe init (unlabeled a) (pushed w)).walk).next (tag_of (maybe init (unlabeled a) (pushed w)).walk x).type_ 0 [] false
+      (next_label (fresh (tag_type (tag_of (maybe init (unlabeled a) (pushed w)).walk x).type_) (condition_uses x (maybe init (unlabeled a) (pushed w)).walk)))))
+  stmt_exact f (t.TypeSwitchStmt at init n x cs) a w = one f (flaw at 0)
+  stmt_exact f (t.SelectStmt at cs) a w = one f (flaw at 0)
+  stmt_exact f (t.GoStmt at x) a w = one f (flaw at 0)
+  stmt_exact f (t.DeferStmt at x) a w = one f (flaw at 0)
+  stmt_exact f (t.ReturnStmt at ys) a w = same f _
+  stmt_exact f (t.BreakStmt at n) a w = same f _
+  stmt_exact f (t.ContinueStmt at n) a w = same f _
+  stmt_exact f (t.FallthroughStmt at) a w = one f (flaw at 91)
+  stmt_exact f (t.LabeledStmt at n s) a w = stmt_exact f s (record a { label = label_of n }) w
+
+  maybe_exact : (f : Flaw) (s : t.MaybeStmt) (a : Around) (w : Walk) → IsIn f (maybe s a w).flaws ↔ HasMaybeFault s a w f
+  maybe_exact f t.NoStmt a w = same f ⊥
+  maybe_exact f (t.AStmt s) a w = stmt_exact f s a w
+
+  block_exact : (f : Flaw) (b : t.Block) (a : Around) (w : Walk) → IsIn f (block b a w).flaws ↔ HasBlockFault b a w f
+  block_exact f (t.BlockOf at ss end) a w = stmts_exact f ss a (pushed w)
+
+  pub stmts_exact : (f : Flaw) (ss : t.Stmts) (a : Around) (w : Walk) → IsIn f (stmts ss a w).flaws ↔ HasStmtsFault ss a w f
+  stmts_exact f t.NoStmts a w = same f ⊥
+  stmts_exact f (t.MoreStmts s ss) a w = both f (stmt s (unlabeled a) w).flaws (stmts ss a (stmt s (unlabeled a) w).walk).flaws _ _ (stmt_exact f s (unlabeled a) w) (stmts_exact f ss a (stmt s (unlabeled a) w).walk)
+
+  clause_exact : (f : Flaw) (onward : Bool) (ss : t.Stmts) (a : Around) (w : Walk) → IsIn f (clause_stmts onward ss a w).flaws ↔ HasClauseFault onward ss a w f
+  clause_exact f true (t.MoreStmts (t.FallthroughStmt at) t.NoStmts) a w = same f ⊥
+  clause_exact f onward t.NoStmts a w = same f ⊥
+  clause_exact f onward (t.MoreStmts s ss) a w = both f (stmt s (unlabeled a) w).flaws (clause_stmts onward ss a (stmt s (unlabeled a) w).walk).flaws _ _ (stmt_exact f s (unlabeled a) w) (clause_exact f onward ss a (stmt s (unlabeled a) w).walk)
+
+  clauses_exact : (f : Flaw) (cs : t.Clauses) (a : Around) (tag : ℕ) (u : Option Ty) (number : ℕ) (seen : List Const) (had : Bool) (w : Walk) → IsIn f (clauses cs a tag u number seen had w).flaws ↔ HasClausesFault cs a tag u number seen had w f
+  clauses_exact f t.NoClauses a tag u number seen had w = same f ⊥
+  clauses_exact f (t.MoreClauses at xs ss cs) a tag u number seen had w =
+      let ts = case_tests w tag u number xs seen in
+      let d = within (clause_stmts (falls ss && not (is_last cs)) ss a) (uses_all xs w) in
+      let r = clauses cs a tag u (suc number) ts.seen (is_default xs || had) d.walk in
+      both f (default_flaws at (is_default xs) had ++ ts.flaws ++ d.flaws) r.flaws _ _
+      (both f (default_flaws at (is_default xs) had ++ ts.flaws) d.flaws _ _
+      (both f (default_flaws at (is_default xs) had) ts.flaws _ _
+      (second_default f (default_flaws at (is_default xs) had) (flaw at 92) (is_default xs) had (λ d1 e. rw (d1, e) refl) (λ d1. rw d1 refl) (λ e. by_default (is_default xs) had e)) (cases_exact f w tag u number xs seen))
+      (clause_exact f (falls ss && not (is_last cs)) ss a (pushed (uses_all xs w))))
+      (clauses_exact f cs a tag u (suc number) ts.seen (is_default xs || had) d.walk)
+    where
+      by_default : (b c : Bool) → c ≡ false → default_flaws at b c ≡ []
+      by_default true c e = rw e refl
+      by_default false c e = refl
 
 pub statements_told_exactly : StatementsToldExactly
 statements_told_exactly s a w f = stmt_exact f s a w

@@ -19,7 +19,7 @@ use Rattle.go_statements.specs.Walk.{Walk, Around, Did, and_then, within, pushed
 use Rattle.go_statements.specs.Expressions.{value_alone, core_of, type_of, answer_in}
 use Rattle.go_statements.specs.Assign.{count_of, same_number, several_right, first_right, assign_by, update_left, update, left_of, one_, step_op, step, left_uses, first_place, Left, left_blank, left_place, left_wrong, miscounted}
 use Rattle.go_statements.specs.Labels.{label_of}
-use Rattle.go_statements.specs.Statements.{called_in, expression, if_did, with_target, unlabeled, for_did, post_did, condition_uses, next_label, Clauses, falls, is_last, is_default, switch_did, stmt, maybe, block, stmts, clause_stmts, clauses}
+use Rattle.go_statements.specs.Statements.{called_in, expression, if_did, with_target, unlabeled, for_did, post_did, condition_uses, next_label, Clauses, falls, is_last, is_default, switch_did, stmt, maybe, block, stmts, clause_stmts, clauses, limited}
 use Rattle.go_typing.specs.Answer.{Part}
 use Rattle.gj_base.specs.declared.kind.Op.{Op}
 use Rattle.go_sound.specs.Added.{TypeIsSet}
@@ -189,12 +189,16 @@ module _ (p : CoreProgram) where
       same : switch_did (t.AnExpr e) init cs w ≡ switch_at v.type_ (core_of (value_alone (init w).walk e).answer) (value_alone (init w).walk e).flaws (t.AnExpr e) init cs w
       same = tag_there e init cs w v.type_ v.has_type
 
+  limited_done : (a : node.Around) (vs : List Var) (w : Walk) (at : Place) (cs : t.Clauses) (d : Did) → Done p a vs w d → Done p a vs w (limited at cs d)
+  limited_done a vs w at cs d h = record { is_sound = h.is_sound; extends = h.extends; ready = h.ready; before = h.before; adds = h.adds }
+
   switch_done : (at : Place) (init : t.MaybeStmt) (x : t.MaybeExpr) (cs : t.Clauses) (a : node.Around) (b : Around) → DoneBy p a (unlabeled b) (maybe init (unlabeled b)) → BoundHasOperators x
       → ClausesBy a b (λ tag u label. clauses cs (with_target label false b) tag u 0 [] false) → DoneBy p a b (stmt (t.SwitchStmt at init x cs) b)
   switch_done at init x cs a b di o say vs w s k h =
-      done_within p a vs b w f s on (names_of p a.declarable w (within f w).walk k)
+      limited_done a vs w at cs (within f w)
+      (done_within p a vs b w f s on (names_of p a.declarable w (within f w).walk k)
       (switch_inside a b x (maybe init (unlabeled b)) (λ tag u label. clauses cs (with_target label false b) tag u 0 [] false) o di (λ v. maybe_on init (unlabeled b) v) (λ tag u label v. clauses_on cs (with_target label false b) tag u 0 [] false v) say vs (pushed w)
-      (state_pushed p a vs b w s) (holds_inside p a.declarable w (f (pushed w)).walk k) h)
+      (state_pushed p a vs b w s) (holds_inside p a.declarable w (f (pushed w)).walk k) (no_first (within f w).flaws _ h)))
     where
       f : Walk → Did
       f = switch_did x (maybe init (unlabeled b)) (λ tag u label. clauses cs (with_target label false b) tag u 0 [] false)

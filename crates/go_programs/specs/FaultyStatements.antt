@@ -2,6 +2,7 @@
 -- statements": which statements of a body are faulty, each in its place. What is known before a statement is what those before it
 -- leave.
 use Rattle.std.specs.Prelude.{◌≡◌, ◌⊎◌, ◌↔◌, ℕ, suc, List, [], ◌∷◌, Bool, true, false, ◌&&◌, ◌||◌, not, Option, Some, None}
+use Rattle.gj_base.specs.declared.place.Place.{Place}
 use Rattle.go_syntax.specs.Tree as t
 use Rattle.go_const.specs.declared.constant.Const.{Const}
 use Rattle.go_core.specs.CoreTree.{break_, continue_}
@@ -15,7 +16,7 @@ use Rattle.go_statements.specs.Expressions.{value_alone, condition}
 use Rattle.go_statements.specs.Assign.{assign, update, step, define, where_typed, all_typed, all_in_flaws, first_place}
 use Rattle.go_statements.specs.Declare.{decl}
 use Rattle.go_statements.specs.Labels.{label_of, labels_told}
-use Rattle.go_statements.specs.Statements.{expression, unlabeled, with_target, next_label, condition_uses, post_did, tag_of, case_answer, case_constant, repeated, and_constant, case_tests, falls, is_last, is_default, returned, branch, stmt, maybe, block, stmts, clause_stmts, missing_return, function_body}
+use Rattle.go_statements.specs.Statements.{expression, unlabeled, with_target, next_label, condition_uses, post_did, tag_of, case_answer, case_constant, repeated, and_constant, case_tests, falls, is_last, is_default, returned, branch, stmt, maybe, block, stmts, clause_stmts, many_told, missing_return, function_body}
 
 abbrev pub HasConditionFault : Walk → t.MaybeExpr → Flaw → Type 0
 HasConditionFault w t.NoExpr f = ⊥
@@ -42,6 +43,10 @@ SomeCaseFault w tag u (t.MoreExprs x xs) seen f =
     ((HasFault w.names w.scopes x f ⊎ IsIn f (own (case_answer w tag u x))) ⊎ ((repeated (case_constant w u x) seen ≡ true) × (f ≡ flaw (place_of x) 92)))
     ⊎ SomeCaseFault w tag u xs (and_constant (case_constant w u x) seen) f
 
+-- a part of a `switch`, or where no part is faulty the whole, which has too many clauses (76)
+abbrev pub PartOrWhole : (Flaw → Type 0) → Place → t.Clauses → Flaw → Type 0
+PartOrWhole Part at cs f = Part f ⊎ (((g : Flaw) → Part g → ⊥) × IsIn f (many_told at cs))
+
 abbrev mutual
   -- the statement itself, or one in it
   pub HasStmtFault : t.Stmt → Around → Walk → Flaw → Type 0
@@ -64,9 +69,10 @@ abbrev mutual
       ⊎ HasBlockFault b (with_target (pushed w).next_label true a) (next_label (post_did post (maybe post (unlabeled a)) (condition_uses x (maybe init (unlabeled a) (pushed w)).walk)).walk) f
   HasStmtFault (t.RangeStmt at xs is_new y b) a w f = f ≡ flaw at 0
   HasStmtFault (t.SwitchStmt at init x cs) a w f =
-      (HasMaybeFault init (unlabeled a) (pushed w) f ⊎ HasTagFault (maybe init (unlabeled a) (pushed w)).walk x f)
+      PartOrWhole (λ g.
+      (HasMaybeFault init (unlabeled a) (pushed w) g ⊎ HasTagFault (maybe init (unlabeled a) (pushed w)).walk x g)
       ⊎ HasClausesFault cs (with_target (condition_uses x (maybe init (unlabeled a) (pushed w)).walk).next_label false a) (condition_uses x (maybe init (unlabeled a) (pushed w)).walk).next (tag_of (maybe init (unlabeled a) (pushed w)).walk x).type_ 0 [] false
-      (next_label (fresh (tag_type (tag_of (maybe init (unlabeled a) (pushed w)).walk x).type_) (condition_uses x (maybe init (unlabeled a) (pushed w)).walk))) f
+      (next_label (fresh (tag_type (tag_of (maybe init (unlabeled a) (pushed w)).walk x).type_) (condition_uses x (maybe init (unlabeled a) (pushed w)).walk))) g) at cs f
   HasStmtFault (t.TypeSwitchStmt at init n x cs) a w f = f ≡ flaw at 0
   HasStmtFault (t.SelectStmt at cs) a w f = f ≡ flaw at 0
   HasStmtFault (t.GoStmt at x) a w f = f ≡ flaw at 0

@@ -1,5 +1,5 @@
 -- Short words for the rows: bodies of functions with their places, and what is told of them.
-use Rattle.std.specs.Prelude.{ℕ, List, [], ◌∷◌, false, Some, None}
+use Rattle.std.specs.Prelude.{ℕ, zero, suc, codes, List, [], ◌∷◌, false, Some, None}
 use Rattle.go_syntax.specs.Tree as t
 use Rattle.go_syntax.specs.declared.tree.Name.{Name}
 use Rattle.go_type.specs.Tree.{Tys, no_tys}
@@ -37,6 +37,11 @@ abbrev pub around : Tys → Around
 around rs = record { results = Some rs; named_results = false; targets = []; label = None }
 
 -- in a function with these results
+-- so many clauses `case b:`, before the others
+abbrev pub clauses_like : ℕ → t.Clauses → t.Clauses
+clauses_like zero cs = cs
+clauses_like (suc n) cs = clause 0 (t.NameExpr (at 0) (codes "b") ∷ []) [] (clauses_like n cs)
+
 abbrev pub told_in : Tys → t.Block → List Flaw
 told_in rs b = (function_body b (around rs) start).flaws
 

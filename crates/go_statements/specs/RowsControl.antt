@@ -5,7 +5,7 @@ use Rattle.gj_base.specs.declared.kind.Op.TheVariants as operator
 use Rattle.go_syntax.specs.Tree as t
 use Rattle.go_type.specs.Tree as ty
 use Rattle.go_typing.specs.RowWords.{at, name, num, str, two, exprs, call, int, one_type, two_types, fault, named_fault}
-use Rattle.go_statements.specs.RowWords.{block, id, clause, told_in, told}
+use Rattle.go_statements.specs.RowWords.{block, id, clause, told_in, told, clauses_like}
 
 pub record RowsControl : Type 0 where
   -- conditions (86)
@@ -56,6 +56,10 @@ pub record RowsControl : Type 0 where
   pub other_case : told (block 0 ((t.SwitchStmt (at 2) t.NoStmt (t.AnExpr (name (codes "i") 9)) (clause 13 ((num (codes "4") 18) ∷ []) ([]) (clause 21 ((num (codes "6") 26) ∷ []) ([]) t.NoClauses))) ∷ []) 31) ≡ []
   -- `{ switch { default: default: } }`
   pub two_defaults : told (block 0 ((t.SwitchStmt (at 2) t.NoStmt t.NoExpr (clause 11 ([]) ([]) (clause 20 ([]) ([]) t.NoClauses))) ∷ []) 31) ≡ fault 20 92 ∷ []
+  -- `{ switch { case b: .. } }`, with 1000 clauses, then with 1001, then with 1001 and a fault in one
+  pub as_many_clauses : told (block 0 ((t.SwitchStmt (at 2) t.NoStmt t.NoExpr (clauses_like 1000 t.NoClauses)) ∷ []) 30) ≡ []
+  pub too_many_clauses : told (block 0 ((t.SwitchStmt (at 2) t.NoStmt t.NoExpr (clauses_like 1001 t.NoClauses)) ∷ []) 30) ≡ fault 2 76 ∷ []
+  pub too_many_clauses_around_a_fault : told (block 0 ((t.SwitchStmt (at 2) t.NoStmt t.NoExpr (clauses_like 1000 (clause 20 (name (codes "x") 25 ∷ []) [] t.NoClauses))) ∷ []) 30) ≡ named_fault 25 50 (codes "x") ∷ []
   -- `{ switch i { case x: case 4, 4: } }`
   pub repeated_after_another_fault : told (block 0 ((t.SwitchStmt (at 2) t.NoStmt (t.AnExpr (name (codes "i") 9)) (clause 13 ((name (codes "x") 18) ∷ []) ([]) (clause 21 ((num (codes "4") 26) ∷ (num (codes "4") 29) ∷ []) ([]) t.NoClauses))) ∷ []) 34) ≡ named_fault 18 50 (codes "x") ∷ fault 29 92 ∷ []
   -- `{ switch { case i == 4: case b: } }`

@@ -1,7 +1,7 @@
 -- All statements of scalar programs. Go specification (as of Go 1.17), "Statements",
 -- "Blocks", "Expression statements", "If statements", "For statements", "Switch statements", "Return statements",
 -- "Break statements", "Continue statements", "Fallthrough statements", "Labeled statements", "Terminating statements".
-use Rattle.std.specs.Prelude.{ℕ, suc, ◌==◌, ◌||◌, List, [], ◌∷◌, ◌++◌, Bool, true, false, ◌&&◌, not, if◌then◌else◌, Option, Some, None, bytes_eq}
+use Rattle.std.specs.Prelude.{ℕ, suc, ◌==◌, nat_lt, ◌||◌, List, [], ◌∷◌, ◌++◌, Bool, true, false, ◌&&◌, not, if◌then◌else◌, Option, Some, None, bytes_eq}
 use Rattle.std.specs.Ordering.{int_eq}
 use Rattle.gj_base.specs.declared.place.Place.{Place}
 use Rattle.gj_base.specs.declared.kind.Op.TheVariants as operator
@@ -231,6 +231,25 @@ switch_did x init clauses w =
     tag_type None = ty.bool
     tag_type (Some v) = v
 
+abbrev pub count_clauses : t.Clauses → ℕ
+count_clauses t.NoClauses = 0
+count_clauses (t.MoreClauses at xs ss cs) = suc (count_clauses cs)
+
+-- own: there are at most so many clauses, a `default` among them (76)
+abbrev pub clauses_limit : ℕ
+clauses_limit = 1000
+
+abbrev pub many_told : Place → t.Clauses → List Flaw
+many_told at cs = if nat_lt clauses_limit (count_clauses cs) then flaw at 76 ∷ [] else []
+
+abbrev pub where_clean : List Flaw → List Flaw → List Flaw
+where_clean [] fs = fs
+where_clean (g ∷ gs) fs = []
+
+-- told where nothing is told of the parts
+abbrev pub limited : Place → t.Clauses → Did → Did
+limited at cs d = record { core = d.core; flaws = d.flaws ++ where_clean d.flaws (many_told at cs); walk = d.walk }
+
 -- ---- `return` (88)
 
 abbrev pub returned_each : Walk → Tys → t.Exprs → Valued × core.Exprs
@@ -311,7 +330,7 @@ abbrev mutual
   stmt (t.IfStmt at init x b other) a w = within (if_did x (maybe init (unlabeled a)) (block b (unlabeled a)) (maybe other (unlabeled a))) w
   stmt (t.ForStmt at init x post b) a w = within (for_did x (maybe init (unlabeled a)) (post_did post (maybe post (unlabeled a))) (λ label. block b (with_target label true a))) w
   stmt (t.RangeStmt at xs is_new y b) a w = not_built at (t.RangeStmt at xs is_new y b) w
-  stmt (t.SwitchStmt at init x cs) a w = within (switch_did x (maybe init (unlabeled a)) (λ tag u label. clauses cs (with_target label false a) tag u 0 [] false)) w
+  stmt (t.SwitchStmt at init x cs) a w = limited at cs (within (switch_did x (maybe init (unlabeled a)) (λ tag u label. clauses cs (with_target label false a) tag u 0 [] false)) w)
   stmt (t.TypeSwitchStmt at init n x cs) a w = not_built at (t.TypeSwitchStmt at init n x cs) w
   stmt (t.SelectStmt at cs) a w = not_built at (t.SelectStmt at cs) w
   stmt (t.GoStmt at x) a w = not_built at (t.GoStmt at x) w
@@ -355,10 +374,6 @@ abbrev pub missing_return : Option Tys → Place → List core.Stmt → List Fla
 missing_return None end ss = []
 missing_return (Some no_tys) end ss = []
 missing_return (Some (more_tys u us)) end ss = if ends_terminating (body ss) then [] else flaw end 87 ∷ []
-
-abbrev pub where_clean : List Flaw → List Flaw → List Flaw
-where_clean [] fs = fs
-where_clean (g ∷ gs) fs = []
 
 -- own: whether a body ends is asked of its core, so where its statements have no fault
 abbrev pub body_flaws : Around → t.Block → Place → Did → List Flaw
