@@ -17,9 +17,10 @@ use Rattle.go_typing.specs.Operand.{constant_at}
 use Rattle.go_typing.specs.Typing.{place_of}
 use Rattle.go_statements.specs.Walk.{Walk, Around, Did, and_then, within, pushed, body, fresh, uses, uses_all}
 use Rattle.go_statements.specs.Expressions.{value_alone, core_of, type_of, answer_in}
-use Rattle.go_statements.specs.Assign.{count_of, same_number, several_right, first_right, assign_by, update_left, update, left_of, one_, step_op, step, left_uses, first_place, Left, left_blank, left_place, left_wrong, miscounted}
+use Rattle.go_statements.specs.Assign.{define, count_of, same_number, several_right, first_right, assign_by, update_left, update, left_of, one_, step_op, step, left_uses, first_place, Left, left_blank, left_place, left_wrong, miscounted}
+use Rattle.go_statements.specs.Declare.{decl}
 use Rattle.go_statements.specs.Labels.{label_of}
-use Rattle.go_statements.specs.Statements.{called_in, expression, if_did, with_target, unlabeled, for_did, post_did, condition_uses, next_label, Clauses, falls, is_last, is_default, switch_did, stmt, maybe, block, stmts, clause_stmts, clauses, limited}
+use Rattle.go_statements.specs.Statements.{called_in, expression, if_did, with_target, unlabeled, for_did, post_did, condition_uses, next_label, Clauses, falls, is_last, is_default, switch_did, stmt, maybe, block, stmts, clause_stmts, clauses, limited, spared}
 use Rattle.go_typing.specs.Answer.{Part}
 use Rattle.gj_base.specs.declared.kind.Op.{Op}
 use Rattle.go_sound.specs.Added.{TypeIsSet}
@@ -32,7 +33,7 @@ use Rattle.go_sound.proofs.GoesOnBodies.{performed_walk, condition_uses_on, next
 use Rattle.go_programs.specs.Grammar.{IsSimple, StmtOfGrammar, MaybeOfGrammar, BlockOfGrammar, StmtsOfGrammar, ClausesOfGrammar}
 use Rattle.go_programs.specs.SoundStatements.{Holds, StatementsAreSound}
 use Rattle.go_programs.proofs.Words.{at_vars, after_vars, one_of_three, two_of_three}
-use Rattle.go_programs.proofs.Ready.{Adds, State, like_left, like_uses_all, type_still, state_like, ready_around, holds_part, names_of, state_on, state_later, state_pushed, holds_inside, Done, Says, says, done_none, done_then, done_within}
+use Rattle.go_programs.proofs.Ready.{Adds, State, Like, ready_like, adds_like, adds_then, like_left, like_uses_all, type_still, state_like, ready_around, holds_part, names_of, state_on, state_later, state_pushed, holds_inside, Done, Says, says, done_none, done_then, done_within}
 use Rattle.go_programs.proofs.Here.{any_there, never_told}
 use Rattle.go_programs.proofs.Stores.{assign_done, update_done, step_done}
 use Rattle.go_programs.proofs.Defines.{alone_value, define_done}
@@ -248,6 +249,21 @@ module _ (p : CoreProgram) where
       next : State p (with_break label a) vs b z
       next = state_later p (with_break label a) vs b v z sv zon (scopes_left f v fon) (names_of p a.declarable v z held)
 
+  -- names that count as used change nothing else
+  spared_done : (a : node.Around) (vs : List Var) (w : Walk) (d : Did) → Done p a vs w d → Done p a vs w (spared w d)
+  spared_done a vs w d h = record {
+    is_sound = h.is_sound;
+    extends = h.extends;
+    ready = ready_like p (at_vars a (after_vars d.core vs)) d.walk (spared w d).walk like h.ready;
+    before = h.before;
+    adds = adds_then p w d.walk (spared w d).walk h.adds (adds_like p d.walk (spared w d).walk like);
+  } where
+    like : Like d.walk (spared w d).walk
+    like = record { names = refl; scopes = refl; next = refl; labels = refl; vars = refl }
+
+  before_spared : (a : node.Around) (w : Walk) (d : Did) → Holds p a.declarable w (spared w d).walk → Holds p a.declarable w d.walk
+  before_spared a w d k = record { variables = k.variables; further = k.further; names_kept = k.names_kept }
+
   -- ---- the whole
 
   mutual
@@ -258,8 +274,8 @@ module _ (p : CoreProgram) where
     stmt_done (t.IncDecStmt at xs up) o a b vs w s k h = step_done p a vs b w s at xs up o h
     stmt_done (t.AssignStmt at xs None ys) o a b vs w s k h = assign_done p a vs b w s at xs ys o.2 h
     stmt_done (t.AssignStmt at xs (Some op) ys) o a b vs w s k h = update_done p a vs b w s at op xs ys o.0 o.1 o.2 h
-    stmt_done (t.DefineStmt at xs ys) o a b vs w s k h = define_done p a vs b w s at xs ys o.1 k h
-    stmt_done (t.DeclStmt at d) o a b vs w s k h = decl_done p a d o vs b w s k h
+    stmt_done (t.DefineStmt at xs ys) o a b vs w s k h = spared_done a vs w (define at xs ys w) (define_done p a vs b w s at xs ys o.1 (before_spared a w (define at xs ys w) k) h)
+    stmt_done (t.DeclStmt at d) o a b vs w s k h = spared_done a vs w (decl d w) (decl_done p a d o vs b w s (before_spared a w (decl d w) k) h)
     stmt_done (t.BlockStmt at x) o a b vs w s k h = block_done x o a (unlabeled b) vs w (relabeled p a vs b None w s) k h
     stmt_done (t.IfStmt at init x bl other) o a b vs w s k h =
         if_done at init x bl other a b (λ us v. maybe_done init o.0 a (unlabeled b) us v) o.1 (λ us v. block_done bl o.2 a (unlabeled b) us v) (λ us v. maybe_done other o.3 a (unlabeled b) us v) vs w s k h

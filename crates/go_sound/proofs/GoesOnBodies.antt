@@ -15,10 +15,10 @@ use Rattle.go_typing.specs.Answer.{Answer, value, does, wrong, untyped_part}
 use Rattle.go_typing.specs.Typing.{Callee, a_function, a_built_in, by_value, place_of}
 use Rattle.go_statements.specs.Walk.{Walk, Around, Did, pushed, within, with_name, is_there, fresh, uses, uses_all}
 use Rattle.go_statements.specs.Expressions.{answer_in}
-use Rattle.go_statements.specs.Assign.{first_right, several_right, same_number}
+use Rattle.go_statements.specs.Assign.{first_right, several_right, same_number, define}
 use Rattle.go_statements.specs.Declare.{SpecType, lost_type, spec_type, type_uses, declare_one, var_each, zero_type, var_zero, spec_or, var_types, names_count, names_number, var_call, var_by, var_values, var_spec, var_specs, counting, constant_value, declare_constant, const_each, const_unknown, const_spec, const_specs, is_bare, new_named, declare_type, type_spec, type_specs, decl}
 use Rattle.go_statements.specs.Labels.{label_of}
-use Rattle.go_statements.specs.Statements.{performed, called_in, expression, if_did, condition_uses, for_did, next_label, unlabeled, with_target, post_did, Clauses, one_clause, switch_did, is_empty, returned_call, returned_by, returned_to, returned_in, branch_did, branch, innermost, target_named, falls, is_last, is_default, case_tests, Tests, count_types, stmt, maybe, block, stmts, clause_stmts, clauses, function_body}
+use Rattle.go_statements.specs.Statements.{performed, called_in, expression, if_did, condition_uses, for_did, next_label, unlabeled, with_target, post_did, Clauses, one_clause, switch_did, is_empty, returned_call, returned_by, returned_to, returned_in, branch_did, branch, innermost, target_named, falls, is_last, is_default, case_tests, Tests, count_types, stmt, maybe, block, stmts, clause_stmts, clauses, function_body, spared}
 use Rattle.go_packages.specs.Signature.{Param, bound, bound_name, all_bound, inside, params_of, results_of, type_of_param, sig_types}
 use Rattle.go_packages.specs.Items.{is_init}
 use Rattle.go_packages.specs.Known.{outside}
@@ -208,6 +208,18 @@ pub one_clause_on : (at : Place) (ts : Tests) (number : ℕ) (is_def had onward 
     → ((seen : List Const) (b : Bool) (v : Walk) → GoesOn v (others seen b v).walk) → GoesOn w (one_clause at ts number is_def had onward inner others w).walk
 one_clause_on at ts number is_def had onward inner others w h k = then_on w (inner w).walk _ (h w) (k ts.seen (is_def || had) (inner w).walk)
 
+-- names that count as used change nothing else
+spared_on : (w : Walk) (d : Did) → GoesOn w d.walk → GoesOn w (spared w d).walk
+spared_on w d g = record {
+  variables = g.variables;
+  variables_added = g.variables_added;
+  numbered = g.numbered;
+  types = g.types;
+  types_added = g.types_added;
+  labels = g.labels;
+  outer_kept = g.outer_kept;
+}
+
 -- ---- the whole
 
 mutual
@@ -218,8 +230,8 @@ mutual
   stmt_on (t.IncDecStmt at xs up) a w = step_on at xs up w
   stmt_on (t.AssignStmt at xs None ys) a w = assign_on at xs ys w
   stmt_on (t.AssignStmt at xs (Some op) ys) a w = update_on at op xs ys w
-  stmt_on (t.DefineStmt at xs ys) a w = define_on at xs ys w
-  stmt_on (t.DeclStmt at d) a w = decl_on d w
+  stmt_on (t.DefineStmt at xs ys) a w = spared_on w (define at xs ys w) (define_on at xs ys w)
+  stmt_on (t.DeclStmt at d) a w = spared_on w (decl d w) (decl_on d w)
   stmt_on (t.BlockStmt at b) a w = block_on b (unlabeled a) w
   stmt_on (t.IfStmt at init x b other) a w =
       within_on (if_did x (maybe init (unlabeled a)) (block b (unlabeled a)) (maybe other (unlabeled a))) w

@@ -3,7 +3,8 @@
 use Rattle.std.specs.Prelude.{◌≡◌, [], ◌∷◌, true, false, Some, None, codes}
 use Rattle.gj_base.specs.declared.kind.Op.TheVariants as operator
 use Rattle.go_syntax.specs.Tree as t
-use Rattle.go_typing.specs.RowWords.{at, name, num, str, paren, two, at_index, exprs, call, fault, named_fault}
+use Rattle.go_syntax.specs.declared.tree.Prefix.TheVariants as «prefix»
+use Rattle.go_typing.specs.RowWords.{at, name, num, str, paren, pre, two, at_index, exprs, call, fault, named_fault}
 use Rattle.go_statements.specs.RowWords.{block, told}
 
 pub record RowsAssign : Type 0 where
@@ -90,6 +91,8 @@ pub record RowsAssign : Type 0 where
   pub used_in_a_form_that_is_not_built : told (block 0 ((t.DefineStmt (at 2) (exprs ((name (codes "x") 2) ∷ [])) (exprs ((num (codes "4") 7) ∷ []))) ∷ (t.GoStmt (at 10) (call (name (codes "h") 13) ((name (codes "x") 15) ∷ []))) ∷ []) 18) ≡ fault 10 0 ∷ []
   -- `{ x := y }`
   pub of_an_undefined_value : told (block 0 ((t.DefineStmt (at 2) (exprs ((name (codes "x") 2) ∷ [])) (exprs ((name (codes "y") 7) ∷ []))) ∷ []) 9) ≡ named_fault 7 50 (codes "y") ∷ named_fault 2 80 (codes "x") ∷ []
+  -- `{ x := *b }`
+  pub of_a_value_that_is_not_built : told (block 0 ((t.DefineStmt (at 2) (exprs ((name (codes "x") 2) ∷ [])) (exprs ((pre 7 «prefix».Star (name (codes "b") 8)) ∷ []))) ∷ []) 10) ≡ fault 7 0 ∷ []
   -- `{ x := y; i = x + "a" }`
   pub user_of_an_unknown_type : told (block 0 ((t.DefineStmt (at 2) (exprs ((name (codes "x") 2) ∷ [])) (exprs ((name (codes "y") 7) ∷ []))) ∷ (t.AssignStmt (at 10) (exprs ((name (codes "i") 10) ∷ [])) None (exprs ((two (name (codes "x") 14) operator.Add (str (codes "a") 18)) ∷ []))) ∷ []) 22) ≡ named_fault 7 50 (codes "y") ∷ []
   -- `{ x := nil; _ = x }`

@@ -30,6 +30,8 @@ pub record RowsDeclare : Type 0 where
   pub variable_as_a_type : told (block 0 ((t.DeclStmt (at 2) (t.VarDecl (at 2) (spec ((id (codes "x") 6) ∷ []) (t.AnExpr (name (codes "i") 8)) ([]) t.NoValues))) ∷ (t.AssignStmt (at 11) (exprs ((name (codes "_") 11) ∷ [])) None (exprs ((name (codes "x") 15) ∷ []))) ∷ []) 17) ≡ fault 8 51 ∷ []
   -- `{ var x []int; _ = x }`
   pub type_that_is_not_built : told (block 0 ((t.DeclStmt (at 2) (t.VarDecl (at 2) (spec ((id (codes "x") 6) ∷ []) (t.AnExpr (t.SliceType (at 8) (name (codes "int") 10))) ([]) t.NoValues))) ∷ (t.AssignStmt (at 15) (exprs ((name (codes "_") 15) ∷ [])) None (exprs ((name (codes "x") 19) ∷ []))) ∷ []) 21) ≡ fault 8 0 ∷ []
+  -- `{ var x []int }`
+  pub unused_of_a_type_that_is_not_built : told (block 0 ((t.DeclStmt (at 2) (t.VarDecl (at 2) (spec ((id (codes "x") 6) ∷ []) (t.AnExpr (t.SliceType (at 8) (name (codes "int") 10))) ([]) t.NoValues))) ∷ []) 14) ≡ fault 8 0 ∷ []
   -- `{ var x int }`
   pub not_used : told (block 0 ((t.DeclStmt (at 2) (t.VarDecl (at 2) (spec ((id (codes "x") 6) ∷ []) (t.AnExpr (name (codes "int") 8)) ([]) t.NoValues))) ∷ []) 12) ≡ named_fault 6 80 (codes "x") ∷ []
   -- `{ var x int; var x string; i = x }`

@@ -1,7 +1,7 @@
 -- All statements of scalar programs. Go specification (as of Go 1.17), "Statements",
 -- "Blocks", "Expression statements", "If statements", "For statements", "Switch statements", "Return statements",
 -- "Break statements", "Continue statements", "Fallthrough statements", "Labeled statements", "Terminating statements".
-use Rattle.std.specs.Prelude.{ℕ, suc, ◌==◌, nat_lt, ◌||◌, List, [], ◌∷◌, ◌++◌, Bool, true, false, ◌&&◌, not, if◌then◌else◌, Option, Some, None, bytes_eq}
+use Rattle.std.specs.Prelude.{ℕ, suc, ◌==◌, nat_lt, ◌||◌, length, drop, map, List, [], ◌∷◌, ◌++◌, Bool, true, false, ◌&&◌, not, if◌then◌else◌, Option, Some, None, bytes_eq}
 use Rattle.std.specs.Ordering.{int_eq}
 use Rattle.gj_base.specs.declared.place.Place.{Place}
 use Rattle.gj_base.specs.declared.kind.Op.TheVariants as operator
@@ -29,6 +29,18 @@ use Rattle.go_statements.specs.Labels.{label_of, labels_told}
 -- own: a statement that is not built yet
 abbrev pub not_built : Place → t.Stmt → Walk → Did
 not_built at s w = faulty (flaw at 0 ∷ []) (with_uses (names_in_stmt s) w)
+
+abbrev pub has_unbuilt : List Flaw → Bool
+has_unbuilt [] = false
+has_unbuilt (f ∷ fs) = (f.code == 0) || has_unbuilt fs
+
+abbrev pub and_places : Bool → List Name → List Place → List Place
+and_places false ns ps = ps
+and_places true ns ps = ps ++ map (λ n. n.place) ns
+
+-- own: the names that a statement declares count as used where a form that is not built yet stands in it
+abbrev pub spared : Walk → Did → Did
+spared w d = record { core = d.core; flaws = d.flaws; walk = record d.walk { used = and_places (has_unbuilt d.flaws) (drop (length w.declared) d.walk.declared) d.walk.used } }
 
 -- ---- expression statements (93)
 
@@ -324,8 +336,8 @@ abbrev mutual
   stmt (t.IncDecStmt at xs up) a w = step at xs up w
   stmt (t.AssignStmt at xs None ys) a w = assign at xs ys w
   stmt (t.AssignStmt at xs (Some op) ys) a w = update at op xs ys w
-  stmt (t.DefineStmt at xs ys) a w = define at xs ys w
-  stmt (t.DeclStmt at d) a w = decl d w
+  stmt (t.DefineStmt at xs ys) a w = spared w (define at xs ys w)
+  stmt (t.DeclStmt at d) a w = spared w (decl d w)
   stmt (t.BlockStmt at b) a w = block b (unlabeled a) w
   stmt (t.IfStmt at init x b other) a w = within (if_did x (maybe init (unlabeled a)) (block b (unlabeled a)) (maybe other (unlabeled a))) w
   stmt (t.ForStmt at init x post b) a w = within (for_did x (maybe init (unlabeled a)) (post_did post (maybe post (unlabeled a))) (λ label. block b (with_target label true a))) w

@@ -44,6 +44,7 @@ returns _ = record {
     used_in_a_faulty_node = refl;
     used_in_a_form_that_is_not_built = refl;
     of_an_undefined_value = refl;
+    of_a_value_that_is_not_built = refl;
     user_of_an_unknown_type = refl;
     of_nil = refl;
     of_no_result = refl;

@@ -15,6 +15,7 @@ returns _ = record {
     undefined_type = refl;
     variable_as_a_type = refl;
     type_that_is_not_built = refl;
+    unused_of_a_type_that_is_not_built = refl;
     not_used = refl;
     twice = refl;
     twice_in_one = refl;
