@@ -17,17 +17,17 @@ use Rattle.go_typing.specs.Scopes.{last_changed, with_bind}
 use Rattle.go_typing.specs.Typing.{place_of}
 use Rattle.go_statements.specs.Walk.{Walk, Around, Did, body, bind_of, is_there, with_name, fresh, var_of, noted, with_variable, uses_all}
 use Rattle.go_statements.specs.Expressions.{Valued, answer_in, value_alone, core_of, type_of, several_types}
-use Rattle.go_statements.specs.Assign.{left_of, left_flaws, target_of, takes, value_for, same_number, count_of, several_right, first_right, Fresh, new_name, old_name, blank_name, no_name, fresh_of, Defined, with_new, new_stmts, new_target, define_new, define_one, define_each, define_flaws, defined_did, define_type_new, define_type, define_types, define_miscounted, define_by, define}
+use Rattle.go_statements.specs.Assign.{left_of, left_flaws, target_of, takes, value_for, same_number, count_of, several_right, first_right, Fresh, new_name, old_name, blank_name, no_name, fresh_of, Defined, with_new, new_stmts, new_target, define_new, define_one, define_each, define_flaws, defined_did, define_type_new, define_type, define_types, define_miscounted, define_by, define, left_uses}
 use Rattle.go_sound.specs.Added.{TypeIsSet, TypesAreSet}
 use Rattle.go_sound.specs.GoesOn.{GoesOn}
 use Rattle.go_sound.specs.SoundTyped.{HasOperators, AllHaveOperators, IsScalarType, AreScalarTypes}
 use Rattle.go_sound.specs.SoundValues.{IsReady}
 use Rattle.go_sound.proofs.SoundWords.{scalar_good}
 use Rattle.go_sound.proofs.SoundBodies.{no_first, no_second}
-use Rattle.go_sound.proofs.GoesOnSteps.{stays, define_each_on, define_types_on, variable_on, uses_all_on}
+use Rattle.go_sound.proofs.GoesOnSteps.{stays, then_on, left_on, define_each_on, define_types_on, variable_on, uses_all_on}
 use Rattle.go_programs.specs.SoundStatements.{VariablesBefore, Holds}
 use Rattle.go_programs.proofs.Words.{at_vars, after_vars, after_append, sound_append, Extends, extends_same, extends_then, extends_less, extends_var, newest, one_of_three, two_of_three, three_of_three}
-use Rattle.go_programs.proofs.Ready.{State, Like, like_same, like_uses_all, like_noted, ready_vars, holds_part, Done, Scoped, scoped_like, scoped_named, scoped_fresh, Adds, adds_none, adds_like, adds_then, adds_var}
+use Rattle.go_programs.proofs.Ready.{State, Like, like_same, like_then, like_left, like_uses_all, like_noted, ready_vars, holds_part, Done, Scoped, scoped_like, scoped_named, scoped_fresh, Adds, adds_none, adds_like, adds_then, adds_var}
 use Rattle.go_programs.proofs.Here.{any_there, never_told_before, AreSeveralHere, several_there}
 use Rattle.go_programs.proofs.Stores.{left_here, Stored, stored_none, stored_more, stored_several, left_stored, target_takes}
 
@@ -384,7 +384,8 @@ module _ (p : CoreProgram) (a : node.Around) (vs : List Var) (b : Around) (w : W
       by_number false n i g = absurd (never_told_before p (at_vars a vs) w s.ready fs (t.MoreExprs y t.NoExprs) (flaw at 84) g)
 
   pub define_done : (at : Place) (xs ys : t.Exprs) → AllHaveOperators ys → Holds p a.declarable w (define at xs ys w).walk → (define at xs ys w).flaws ≡ [] → Done p a vs w (define at xs ys w)
-  define_done at xs ys q k h = define_by_done at (define_flaws at w xs) xs ys (uses_all ys w) (like_uses_all ys w) q (several_right w ys) refl held h
+  define_done at xs ys q k h = define_by_done at (define_flaws at w xs ys) xs ys (uses_all ys (left_uses xs w)) (like_then w (left_uses xs w) (uses_all ys (left_uses xs w)) (like_left xs w) (like_uses_all ys (left_uses xs w))) q (several_right w ys) refl held h
     where
-      held : Holds p a.declarable (uses_all ys w) (define at xs ys w).walk
-      held = holds_part p a.declarable w (uses_all ys w) (define at xs ys w).walk (define at xs ys w).walk (uses_all_on ys w) (stays (define at xs ys w).walk) k
+      held : Holds p a.declarable (uses_all ys (left_uses xs w)) (define at xs ys w).walk
+      held =
+          holds_part p a.declarable w (uses_all ys (left_uses xs w)) (define at xs ys w).walk (define at xs ys w).walk (then_on w (left_uses xs w) _ (left_on xs w) (uses_all_on ys (left_uses xs w))) (stays (define at xs ys w).walk) k

@@ -15,7 +15,7 @@ use Rattle.go_typing.specs.Answer.{Answer, value, does, wrong, untyped_part}
 use Rattle.go_typing.specs.Typing.{Callee, a_function, a_built_in, by_value, place_of}
 use Rattle.go_statements.specs.Walk.{Walk, Around, Did, pushed, within, with_name, is_there, fresh, uses, uses_all}
 use Rattle.go_statements.specs.Expressions.{answer_in}
-use Rattle.go_statements.specs.Assign.{first_right, several_right, same_number, define}
+use Rattle.go_statements.specs.Assign.{first_right, several_right, same_number, define, left_uses}
 use Rattle.go_statements.specs.Declare.{SpecType, lost_type, spec_type, type_uses, declare_one, var_each, zero_type, var_zero, spec_or, var_types, names_count, names_number, var_call, var_by, var_values, var_spec, var_specs, counting, constant_value, declare_constant, const_each, const_unknown, const_spec, const_specs, is_bare, new_named, declare_type, type_spec, type_specs, decl}
 use Rattle.go_statements.specs.Labels.{label_of}
 use Rattle.go_statements.specs.Statements.{performed, called_in, expression, if_did, condition_uses, for_did, next_label, unlabeled, with_target, post_did, Clauses, one_clause, switch_did, is_empty, returned_call, returned_by, returned_to, returned_in, branch_did, branch, innermost, target_named, falls, is_last, is_default, case_tests, Tests, count_types, stmt, maybe, block, stmts, clause_stmts, clauses, function_body, spared}
@@ -25,7 +25,7 @@ use Rattle.go_packages.specs.Known.{outside}
 use Rattle.go_packages.specs.Functions.{Between, at_start, around_body, body_of, after_body, core_function, and_function, functions_from}
 use Rattle.go_packages.specs.Checked.{known_in, between_of, functions_in, error_function, runtime_function, program_of}
 use Rattle.go_sound.specs.GoesOn.{AreNumbered, GoesOn, StatementsGoOn, BlocksLeaveScopes, VariablesDiffer}
-use Rattle.go_sound.proofs.GoesOnSteps.{stays, then_on, did_if, named_on, fresh_on, used_on, uses_on, uses_all_on, and_on, scopes_left, within_on, assign_on, update_on, step_on, new_on, define_on, one_after}
+use Rattle.go_sound.proofs.GoesOnSteps.{stays, then_on, did_if, named_on, fresh_on, used_on, uses_on, uses_all_on, and_on, scopes_left, within_on, assign_on, update_on, step_on, new_on, define_on, one_after, left_on}
 
 -- ---- variables
 
@@ -194,7 +194,7 @@ for_on x init post inner w h k l =
     (then_on (post (condition_uses x (init w).walk)).walk (next_label (post (condition_uses x (init w).walk)).walk) _ (next_label_on (post (condition_uses x (init w).walk)).walk) (l w.next_label _))))
 
 pub post_on : (s : t.MaybeStmt) (post : Walk → Did) (w : Walk) → ((v : Walk) → GoesOn v (post v).walk) → GoesOn w (post_did s post w).walk
-post_on (t.AStmt (t.DefineStmt at xs ys)) post w h = uses_all_on ys w
+post_on (t.AStmt (t.DefineStmt at xs ys)) post w h = then_on w (left_uses xs w) _ (left_on xs w) (uses_all_on ys (left_uses xs w))
 post_on _ post w h = h w
 
 pub switch_on : (x : t.MaybeExpr) (init : Walk → Did) (inner : ℕ → Option Ty → ℕ → Walk → Clauses) (w : Walk) → ((v : Walk) → GoesOn v (init v).walk) → ((i : ℕ) (u : Option Ty) (j : ℕ) (v : Walk) → GoesOn v (inner i u j v).walk)

@@ -213,4 +213,4 @@ define_by_on at w fs xs ys None u = did_if u (count_of xs ys) _ _ (define_each_o
 define_by_on at w fs xs ys (Some us) u = define_call_on at w fs xs (first_right ys (t.NameExpr at [])) us u
 
 pub define_on : (at : Place) (xs ys : t.Exprs) (w : Walk) → GoesOn w (define at xs ys w).walk
-define_on at xs ys w = then_on w (uses_all ys w) _ (uses_all_on ys w) (define_by_on at w (define_flaws at w xs) xs ys (several_right w ys) (uses_all ys w))
+define_on at xs ys w = then_on w (uses_all ys (left_uses xs w)) _ (then_on w (left_uses xs w) _ (left_on xs w) (uses_all_on ys (left_uses xs w))) (define_by_on at w (define_flaws at w xs ys) xs ys (several_right w ys) (uses_all ys (left_uses xs w)))

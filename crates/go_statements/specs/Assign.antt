@@ -216,10 +216,13 @@ is_in x (y ∷ ys) = if_same (is_blank x) (bytes_eq x y) (is_in x ys)
     if_same false true r = true
     if_same false false r = r
 
-abbrev pub names_flaws : List (List ℕ) → t.Exprs → List Flaw
-names_flaws seen t.NoExprs = []
-names_flaws seen (t.MoreExprs (t.NameExpr at x) es) = (if is_in x seen then record { place = at; code = 82; name = x } ∷ [] else []) ++ names_flaws (x ∷ seen) es
-names_flaws seen (t.MoreExprs e es) = flaw (place_of e) 83 ∷ names_flaws seen es
+abbrev pub no_name_flaws : Walk → t.Expr → List Flaw
+no_name_flaws w e = flaws_in w e ++ (if is_known (answer_in w e) then flaw (place_of e) 83 ∷ [] else [])
+
+abbrev pub names_flaws : Walk → List (List ℕ) → t.Exprs → List Flaw
+names_flaws w seen t.NoExprs = []
+names_flaws w seen (t.MoreExprs (t.NameExpr at x) es) = (if is_in x seen then record { place = at; code = 82; name = x } ∷ [] else []) ++ names_flaws w (x ∷ seen) es
+names_flaws w seen (t.MoreExprs e es) = no_name_flaws w e ++ names_flaws w seen es
 
 abbrev pub is_new : Fresh → Bool
 is_new (new_name n) = true
@@ -235,8 +238,16 @@ abbrev pub first_place : t.Exprs → Place → Place
 first_place t.NoExprs at = at
 first_place (t.MoreExprs e es) at = place_of e
 
-abbrev pub define_flaws : Place → Walk → t.Exprs → List Flaw
-define_flaws at w xs = names_flaws [] xs ++ (if any_new w xs then [] else flaw (first_place xs at) 83 ∷ [])
+-- a fault of a statement whose values are all typed; these tell their own
+abbrev pub where_right : Bool → List Flaw → List Flaw → List Flaw
+where_right true [] fs = fs
+where_right _ parts fs = []
+
+abbrev pub none_new : Place → Walk → t.Exprs → t.Exprs → List Flaw
+none_new at w xs ys = where_right (all_typed w ys) (all_in_flaws w ys) (flaw (first_place xs at) 83 ∷ [])
+
+abbrev pub define_flaws : Place → Walk → t.Exprs → t.Exprs → List Flaw
+define_flaws at w xs ys = names_flaws w [] xs ++ (if any_new w xs then [] else none_new at w xs ys)
 
 -- a value for a name: a new one takes its type, any other is assigned
 pub record Defined : Type 0 where
@@ -333,4 +344,4 @@ define_by at w fs xs ys None u = if count_of xs ys then defined_did fs (define_e
 define_by at w fs xs ys (Some tys) u = define_call at w fs xs (first_right ys (t.NameExpr at [])) tys u
 
 abbrev pub define : Place → t.Exprs → t.Exprs → Walk → Did
-define at xs ys w = define_by at w (define_flaws at w xs) xs ys (several_right w ys) (uses_all ys w)
+define at xs ys w = define_by at w (define_flaws at w xs ys) xs ys (several_right w ys) (uses_all ys (left_uses xs w))

@@ -91,6 +91,12 @@ pub record RowsAssign : Type 0 where
   pub used_in_a_form_that_is_not_built : told (block 0 ((t.DefineStmt (at 2) (exprs ((name (codes "x") 2) ∷ [])) (exprs ((num (codes "4") 7) ∷ []))) ∷ (t.GoStmt (at 10) (call (name (codes "h") 13) ((name (codes "x") 15) ∷ []))) ∷ []) 18) ≡ fault 10 0 ∷ []
   -- `{ x := y }`
   pub of_an_undefined_value : told (block 0 ((t.DefineStmt (at 2) (exprs ((name (codes "x") 2) ∷ [])) (exprs ((name (codes "y") 7) ∷ []))) ∷ []) 9) ≡ named_fault 7 50 (codes "y") ∷ named_fault 2 80 (codes "x") ∷ []
+  -- `{ x := 4; x := y }`
+  pub none_new_of_an_undefined_value : told (block 0 ((t.DefineStmt (at 2) (exprs ((name (codes "x") 2) ∷ [])) (exprs ((num (codes "4") 7) ∷ []))) ∷ (t.DefineStmt (at 10) (exprs ((name (codes "x") 10) ∷ [])) (exprs ((name (codes "y") 15) ∷ []))) ∷ []) 17) ≡ named_fault 15 50 (codes "y") ∷ named_fault 2 80 (codes "x") ∷ []
+  -- `{ x := 4; x + 4 := 6 }`
+  pub used_on_the_left : told (block 0 ((t.DefineStmt (at 2) (exprs ((name (codes "x") 2) ∷ [])) (exprs ((num (codes "4") 7) ∷ []))) ∷ (t.DefineStmt (at 10) (exprs ((two (name (codes "x") 10) operator.Add (num (codes "4") 14)) ∷ [])) (exprs ((num (codes "6") 19) ∷ []))) ∷ []) 21) ≡ fault 10 83 ∷ []
+  -- `{ y + 4 := 6 }`
+  pub undefined_on_the_left : told (block 0 ((t.DefineStmt (at 2) (exprs ((two (name (codes "y") 2) operator.Add (num (codes "4") 6)) ∷ [])) (exprs ((num (codes "6") 11) ∷ []))) ∷ []) 13) ≡ named_fault 2 50 (codes "y") ∷ []
   -- `{ x := *b }`
   pub of_a_value_that_is_not_built : told (block 0 ((t.DefineStmt (at 2) (exprs ((name (codes "x") 2) ∷ [])) (exprs ((pre 7 «prefix».Star (name (codes "b") 8)) ∷ []))) ∷ []) 10) ≡ fault 7 0 ∷ []
   -- `{ x := y; i = x + "a" }`
