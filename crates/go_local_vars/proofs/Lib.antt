@@ -1,0 +1,5 @@
+pub mod SpecLemmas
+pub mod LeftLemmas
+mod NameLemmas
+mod VarLemmas
+mod GivenLemmas

@@ -1,0 +1,14 @@
+//! Variables that functions declare, with the types and values of their specifications.
+//!
+//! The Go Programming Language Specification (as of Go 1.17), "Variable declarations". The definitions
+//! stand in go_statements (`specs/Declare.antt`).
+#![tactic(auto)]
+
+pub mod names;
+pub mod spec;
+pub mod specs;
+pub mod taken;
+pub mod valued;
+pub mod zero;
+
+pub use specs::var_specs;
