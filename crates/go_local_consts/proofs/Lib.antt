@@ -1,0 +1,4 @@
+mod ConstLemmas
+mod StepLemmas
+mod PlainLemmas
+mod SpecLemmas
