@@ -1,0 +1,7 @@
+mod FreshLemmas
+mod NameLemmas
+mod FineLemmas
+mod DefineLemmas
+mod AllLemmas
+mod SpotLemmas
+mod TopLemmas

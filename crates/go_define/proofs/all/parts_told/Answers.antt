@@ -1,0 +1,11 @@
+use Rattle.std.proofs.Common.{map}
+use Rattle.go_answers.specs.AnswerView.{flaw_view}
+use Rattle.go_typed.specs.Raw.{raws_view}
+use Rattle.go_define.proofs.AllLemmas.{parts_told}
+use Rattle.go_define.proofs.all.parts_told.Goals as goal
+
+pub returns-in-Ok-told_where_typed : goal.returns-in-Ok-told_where_typed
+returns-in-Ok-told_where_typed c = record {
+  told = λ ts. parts_told c.args.at (raws_view ts c.args.raws) (map flaw_view c.args.fs.items) (map flaw_view c.args.flaws.now.items) (map flaw_view c.told_where_typed.new.flaws.items) (map flaw_view c.move_all.new.flaws.items) (map flaw_view c.move_flaws.new.flaws.items) c.new-parts.result.items c.all_known-known.result
+      c.new-parts.ensures.items (c.all_known-known.ensures.value ts) (c.in-Ok.ensures.told ts) c.in-Ok-move_flaws.ensures.told c.in-Ok-told_where_typed.ensures.told;
+}

@@ -1,0 +1,3 @@
+pub mod FreshView
+pub mod Told
+pub mod Defining

@@ -1,0 +1,96 @@
+//! `xs := ys`.
+//!
+//! Go, "Short variable declarations".
+
+ghost use Rattle.std.specs.Prelude.{◌≡◌, ◌<◌, OnOk, IfOk, map};
+ghost use Rattle.go_type.specs.Table.{size};
+ghost use Rattle.go_syntax.specs.View.{expr_view, exprs_of};
+ghost use Rattle.go_scopes.specs.EnvView.{table_of};
+ghost use Rattle.go_callee.specs.Words.{types_of, names_of, scopes_of};
+ghost use Rattle.go_statements.specs.Walk.{uses_all};
+ghost use Rattle.go_statements.specs.Assign as go;
+ghost use Rattle.go_walk.specs.WalkView.{walk_outside, depth};
+ghost use Rattle.go_typed.specs.Raw.{raws_of, raws_view, RawsBelow};
+ghost use Rattle.go_valued.specs.Outcome.{Does};
+ghost use Rattle.go_effects.specs.Moves.{Moves, Stays};
+ghost use Rattle.go_define.specs.FreshView.{spots_of, freshes_view, FreshesBelow};
+
+use crate::all::all_defined;
+use crate::fresh::{Freshes, freshes_in};
+use crate::names::{each_told, none_told};
+use gj_base::{NoMemory, Place};
+use go_answers::answer::Flaw;
+use go_assign::uses::left_uses;
+use go_core::statement::CoreStmt;
+use go_effects::{all_typed, all_used};
+use go_syntax::tree::Expr;
+use go_typed::{Raws, gone_raws};
+use go_walk::Walk;
+
+// The variables that both sides use. A left side that is no name may use some.
+#[tactic(auto, using(crate::proofs::TopLemmas::uses_both))]
+fn both_used(walk: &mut Walk, xs: &[Expr], ys: &[Expr]) -> Result<(), NoMemory>
+    ensures moves { OnOk result (Moves (λ w. uses_all (exprs_of (map expr_view ys.now)) (go.left_uses (exprs_of (map expr_view xs.now)) w)) walk.old walk.new) }
+    ensures env { OnOk result (walk.new.env ≡ walk.old.env) }
+{
+    left_uses(walk, xs)?;
+    match all_used(walk, ys) {
+        Ok(()) => Ok(()),
+        Err(error) => Err(error),
+    }
+}
+
+// Names and values, over one table of types.
+#[tactic(auto, using(crate::proofs::TopLemmas::freshes_later, crate::proofs::TopLemmas::below_later, crate::proofs::TopLemmas::raws_earlier, go_effects::proofs::WalkLemmas::stays_on))]
+fn sides(walk: &mut Walk, xs: &[Expr], ys: &[Expr]) -> Result<(Freshes, Raws), NoMemory>
+    requires depth { 0 < depth walk.old }
+    ensures freshes { IfOk result (λ r. freshes_view (types_of walk.new.env) r.0 ≡ spots_of (walk_outside walk.old.env) (map expr_view xs.now)) }
+    ensures raws { IfOk result (λ r. raws_view (types_of walk.new.env) r.1 ≡ raws_of (names_of walk.old.env) (scopes_of walk.old.env) (map expr_view ys.now)) }
+    ensures freshes_below { IfOk result (λ r. FreshesBelow (size (table_of walk.new.env)) r.0) }
+    ensures raws_below { IfOk result (λ r. RawsBelow (size (table_of walk.new.env)) r.1) }
+    ensures stays { OnOk result (Stays walk.old walk.new) }
+{
+    let freshes = freshes_in(walk, xs)?;
+    match all_typed(walk, ys) {
+        Ok(raws) => Ok((freshes, raws)),
+        Err(error) => Err(error),
+    }
+}
+
+/// A declaration of the new names on the left, and an assignment of values to all of them. All values
+/// are typed in the scopes before it.
+///
+/// Go, "Short variable declarations".
+#[tactic(auto, using(crate::proofs::TopLemmas::depth_env, crate::proofs::TopLemmas::depth_later))]
+pub fn define(
+    walk: &mut Walk,
+    at: Place,
+    xs: &[Expr],
+    ys: &[Expr],
+    flaws: &mut Vec<Flaw>,
+    out: &mut Vec<CoreStmt>,
+) -> Result<(), NoMemory>
+    requires depth { 0 < depth walk.old }
+    ensures does { OnOk result (Does (go.define at (exprs_of (map expr_view xs.now)) (exprs_of (map expr_view ys.now))) walk.old walk.new flaws.old.items flaws.new.items out.old.items out.new.items) }
+{
+    let alloc = *flaws.allocator();
+    let mut fs = Vec::new(alloc);
+    both_used(walk, xs, ys)?;
+    each_told(walk, &mut fs, xs)?;
+    match sides(walk, xs, ys) {
+        Ok(parts) => {
+            let (freshes, raws) = parts;
+            match none_told(&walk.env, at, xs, &freshes, &raws, &mut fs) {
+                Ok(()) => match all_defined(alloc, walk, at, freshes, raws, fs, flaws, out) {
+                    Ok(()) => Ok(()),
+                    Err(error) => Err(error),
+                },
+                Err(error) => {
+                    gone_raws(raws);
+                    Err(error)
+                }
+            }
+        }
+        Err(error) => Err(error),
+    }
+}
