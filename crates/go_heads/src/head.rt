@@ -1,0 +1,119 @@
+//! A function before its body.
+
+ghost use Rattle.std.specs.Prelude.{◌≡◌, ◌++◌, List, OnOk, IfOk, IfSome, map, option_map, codes};
+ghost use Rattle.go_type.specs.Table.{size};
+ghost use Rattle.go_type.specs.Tree.{Ty};
+ghost use Rattle.go_syntax.specs.View.{sig_view, block_view};
+ghost use Rattle.go_scopes.specs.EnvView.{table_of};
+ghost use Rattle.go_callee.specs.Words as words;
+ghost use Rattle.go_items.specs.ParamView.{grouped_view};
+ghost use Rattle.go_packages.specs.Signature as go;
+ghost use Rattle.go_params.specs.Bound.{type_view, TypesBelow};
+ghost use Rattle.go_signatures.specs.SigView.{sig_found, SigFoundBelow};
+ghost use Rattle.go_walk.specs.WalkView.{walk_outside, Keeps};
+ghost use Rattle.go_typed.specs.Raw.{Grows};
+ghost use Rattle.go_heads.specs.Heads.{head_of};
+ghost use Rattle.go_heads.specs.HeadView.{head_view, IsReady};
+
+use gj_base::{NoMemory, Place, Text};
+use go_items::param::{Grouped, params_of, results_of, some_named};
+use go_scopes::Env;
+use go_signatures::{SigTypes, sig_types, types_of};
+use go_syntax::tree::{Block, Name, Sig};
+use go_type::types::TypeId;
+use std::alloc::Global;
+
+/// A function before its body: where it stands, the name that is told of it, its parameters and then its
+/// results, the type of each where that is known, the types of its signature where nothing is told of it,
+/// whether its results have names, and the body.
+#[derive(Drop)]
+pub struct Head<'a> {
+    pub place: Place,
+    pub name: Text,
+    pub params: Vec<Grouped<'a>>,
+    pub types: Vec<Option<TypeId>>,
+    pub sig: Option<SigTypes>,
+    pub named_results: bool,
+    pub body: &'a Block,
+}
+
+// Own: the name that is told has the package before it.
+fn told_name(alloc: Global, n: &Name) -> Result<Text, NoMemory>
+    ensures value { IfOk result (λ x. x ≡ codes "main." ++ n.now.text) }
+{
+    let mut text = Text::from_slice(alloc, b"main.")?;
+    text.push_bytes(n.text.as_bytes())?;
+    Ok(text)
+}
+
+// What is told of a signature is told where its declaration stands.
+fn sig_alone(alloc: Global, env: &mut Env, sig: &Sig) -> Result<Option<SigTypes>, NoMemory>
+    ensures types { IfOk result (λ s. option_map (sig_found (words.types_of env.new)) s ≡ go.sig_types (walk_outside env.old) (sig_view sig.now)) }
+    ensures within { IfOk result (λ s. IfSome s (SigFoundBelow (size (table_of env.new)))) }
+    ensures grows { OnOk result (Grows env.old env.new) }
+{
+    let mut told = Vec::new(alloc);
+    let found = sig_types(alloc, env, &mut told, sig)?;
+    Ok(found)
+}
+
+fn types_alone(
+    alloc: Global,
+    env: &mut Env,
+    params: &[Grouped<'_>],
+) -> Result<Vec<Option<TypeId>>, NoMemory>
+    ensures types { IfOk result (λ us. map (type_view (words.types_of env.new)) us.items ≡ map (go.type_of_param (walk_outside env.old)) (map grouped_view params.now)) }
+    ensures within { IfOk result (λ us. TypesBelow (size (table_of env.new)) us.items) }
+    ensures grows { OnOk result (Grows env.old env.new) }
+{
+    let mut told = Vec::new(alloc);
+    let types = types_of(alloc, env, &mut told, params)?;
+    Ok(types)
+}
+
+// Parameters, and then results.
+fn all_params<'a>(alloc: Global, sig: &'a Sig) -> Result<Vec<Grouped<'a>>, NoMemory>
+    ensures value { IfOk result (λ ps. map grouped_view ps.items ≡ go.params_of (sig_view sig.now) ++ go.results_of (sig_view sig.now)) }
+{
+    let mut params = params_of(alloc, sig)?;
+    let mut results = results_of(alloc, sig)?;
+    params.append(&mut results)?;
+    Ok(params)
+}
+
+fn named_results(alloc: Global, sig: &Sig) -> Result<bool, NoMemory>
+    ensures value { IfOk result (λ b. b ≡ go.some_named (go.results_of (sig_view sig.now))) }
+{
+    let results = results_of(alloc, sig)?;
+    let is_named = some_named(results.as_slice());
+    Ok(is_named)
+}
+
+/// A function by its declaration, in the scope of its package.
+pub fn head_of<'a>(
+    alloc: Global,
+    env: &mut Env,
+    at: Place,
+    n: &Name,
+    sig: &'a Sig,
+    b: &'a Block,
+) -> Result<Head<'a>, NoMemory>
+    ensures view { IfOk result (λ h. (ts : List Ty) → Keeps (table_of env.new) ts → head_view ts h ≡ head_of (walk_outside env.old) at n.now (sig_view sig.now) (block_view b.now)) }
+    ensures ready { IfOk result (λ h. IsReady (table_of env.new) (walk_outside env.old) h) }
+    ensures grows { OnOk result (Grows env.old env.new) }
+{
+    let name = told_name(alloc, n)?;
+    let is_named = named_results(alloc, sig)?;
+    let params = all_params(alloc, sig)?;
+    let found = sig_alone(alloc, env, sig)?;
+    let types = types_alone(alloc, env, params.as_slice())?;
+    Ok(Head {
+        place: at,
+        name,
+        params,
+        types,
+        sig: found,
+        named_results: is_named,
+        body: b,
+    })
+}
