@@ -1,0 +1,5 @@
+pub mod ViewLemmas
+pub mod FallsLemmas
+pub mod LeafLemmas
+pub mod SpareLemmas
+mod WholeLemmas

@@ -1,0 +1,5 @@
+pub mod Forms
+pub mod Made
+pub mod Spared
+pub mod Tags
+pub mod Whole

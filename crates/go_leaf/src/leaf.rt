@@ -1,0 +1,270 @@
+//! What stands before or after the statements within a statement.
+
+ghost use Rattle.std.specs.Prelude.{◌≡◌, ◌==◌, ◌&&◌, not, ◌++◌, ◌∷◌, [], nat_lt, if◌then◌else◌, length, true, OnOk, IfOk, List, map, option_map};
+ghost use Rattle.go_type.specs.Tree.{Ty};
+ghost use Rattle.go_core.specs.CoreView.{expr_view as core_view, bound_of};
+ghost use Rattle.go_core.specs.declared.statement.CoreStmt as statement;
+ghost use Rattle.go_syntax.specs.View.{expr_view, exprs_of, maybe_expr, stmt_view, stmts_of};
+ghost use Rattle.go_syntax.specs.Tree as t;
+ghost use Rattle.go_scopes.specs.EnvView.{table_of};
+ghost use Rattle.go_typing.specs.Answer.{flaw};
+ghost use Rattle.go_answers.specs.AnswerView.{answer_view, flaw_view};
+ghost use Rattle.go_callee.specs.Words.{types_of};
+ghost use Rattle.go_statements.specs.Walk as walks;
+ghost use Rattle.go_statements.specs.Walk.{Did, uses};
+ghost use Rattle.go_statements.specs.Expressions as go;
+ghost use Rattle.go_statements.specs.Assign.{first_place};
+ghost use Rattle.go_statements.specs.Labels as labels;
+ghost use Rattle.go_statements.specs.Statements as statements;
+ghost use Rattle.go_statements.specs.Statements.{condition_core, condition_told, clauses_limit, condition_uses, default_flaws, post_did};
+ghost use Rattle.go_walk.specs.WalkView.{walk_of, Keeps};
+ghost use Rattle.go_valued.specs.Taken.{StandsFor};
+ghost use Rattle.go_valued.specs.Outcome.{Does};
+ghost use Rattle.go_branch.specs.Passed.{Passes};
+ghost use Rattle.go_leaf.specs.Forms.{is_define, is_fallthrough};
+
+use gj_base::{NoMemory, Place, Text};
+use go_answers::answer::Flaw;
+use go_answers::rule::and_flaw;
+use go_assign::uses::left_uses;
+use go_branch::used::{fault_where_typed, raws_used};
+use go_core::node::CoreExpr;
+use go_effects::place_in;
+use go_labels::blank::is_blank;
+use go_nodes::gone::gone_expr;
+use go_syntax::tree::{Expr, Name, Stmt, StmtForm};
+use go_valued::taken::core_of;
+use go_valued::told::move_flaws;
+use go_valued::valued::{Valued, condition};
+use go_walk::Walk;
+use go_walk::uses::use_expr;
+
+/// What a label declares.
+pub fn label_of(n: &Name) -> Option<&Text>
+    ensures value { option_map (λ x. x.now) result ≡ labels.label_of n.now }
+{
+    if is_blank(&n.text) {
+        return None;
+    }
+    Some(&n.text)
+}
+
+// ---- conditions
+
+// A typed condition: its core, with what is told of it.
+fn decided_by(walk: &Walk, flaws: &mut Vec<Flaw>, valued: Valued) -> Result<CoreExpr, NoMemory>
+    ensures core { IfOk result (StandsFor (table_of walk.now.env) (go.core_of (answer_view (types_of walk.now.env) valued.answer))) }
+    ensures told { OnOk result (map flaw_view flaws.new.items ≡ map flaw_view flaws.old.items ++ map flaw_view valued.flaws.items) }
+{
+    let Valued {
+        answer,
+        flaws: more,
+    } = valued;
+    match core_of(*flaws.allocator(), &walk.env, answer) {
+        Ok(core) => match move_flaws(flaws, more) {
+            Ok(()) => Ok(core),
+            Err(error) => {
+                gone_expr(core);
+                Err(error)
+            }
+        },
+        Err(error) => Err(error),
+    }
+}
+
+/// A condition, which is used: its core, with what is told of it.
+#[tactic(auto, using(crate::proofs::LeafLemmas::decided_core, crate::proofs::LeafLemmas::decided_told, crate::proofs::LeafLemmas::passes_grown))]
+pub fn decided(walk: &mut Walk, flaws: &mut Vec<Flaw>, x: &Expr) -> Result<CoreExpr, NoMemory>
+    ensures core { IfOk result (λ c. (us : List Ty) → StandsFor (table_of walk.new.env) (go.core_of (go.condition (walk_of us walk.old) (expr_view x.now)).answer) c) }
+    ensures told { OnOk result ((us : List Ty) → map flaw_view flaws.new.items ≡ map flaw_view flaws.old.items ++ (go.condition (walk_of us walk.old) (expr_view x.now)).flaws) }
+    ensures passes { OnOk result (Passes (uses (expr_view x.now)) walk.old walk.new) }
+{
+    let alloc = *walk.used.allocator();
+    use_expr(walk, x)?;
+    match condition(alloc, &mut walk.env, x) {
+        Ok(valued) => match decided_by(walk, flaws, valued) {
+            Ok(core) => Ok(core),
+            Err(error) => Err(error),
+        },
+        Err(error) => Err(error),
+    }
+}
+
+/// The same of one that there may be.
+#[tactic(auto, using(crate::proofs::LeafLemmas::some_core, crate::proofs::LeafLemmas::some_told, crate::proofs::LeafLemmas::some_passes, crate::proofs::LeafLemmas::no_core, crate::proofs::LeafLemmas::no_told, crate::proofs::LeafLemmas::no_passes))]
+pub fn maybe_decided(
+    walk: &mut Walk,
+    flaws: &mut Vec<Flaw>,
+    x: &Option<Expr>,
+) -> Result<Option<CoreExpr>, NoMemory>
+    ensures core { IfOk result (λ c. (us ts : List Ty) → Keeps (table_of walk.new.env) ts → bound_of (option_map (core_view ts) c) ≡ condition_core (walk_of us walk.old) (maybe_expr (option_map expr_view x.now))) }
+    ensures told { OnOk result ((us : List Ty) → map flaw_view flaws.new.items ≡ map flaw_view flaws.old.items ++ condition_told (walk_of us walk.old) (maybe_expr (option_map expr_view x.now))) }
+    ensures passes { OnOk result (Passes (condition_uses (maybe_expr (option_map expr_view x.now))) walk.old walk.new) }
+{
+    match x {
+        Some(x) => match decided(walk, flaws, x) {
+            Ok(core) => Ok(Some(core)),
+            Err(error) => Err(error),
+        },
+        None => Ok(None),
+    }
+}
+
+/// Lets a condition go, if there is one.
+pub fn gone_condition(condition: Option<CoreExpr>) {
+    match condition {
+        Some(core) => gone_expr(core),
+        None => {}
+    }
+}
+
+// ---- the end of a clause
+
+#[tactic(auto, using(crate::proofs::ViewLemmas::view_Fallthrough))]
+fn is_fallthrough(s: &Stmt) -> bool
+    ensures value { result ≡ is_fallthrough (stmt_view s.now) }
+{
+    match &*s.form {
+        StmtForm::Fallthrough => true,
+        _ => false,
+    }
+}
+
+// Whether a clause falls through to the next one.
+#[tactic(auto, using(crate::proofs::FallsLemmas::falls_none, crate::proofs::FallsLemmas::falls_at))]
+fn falls(ss: &[Stmt]) -> bool
+    ensures value { result ≡ statements.falls (stmts_of (map stmt_view ss.now)) }
+{
+    let n = ss.len();
+    if n == 0 {
+        return false;
+    }
+    is_fallthrough(&ss[n - 1])
+}
+
+/// Whether control goes on from the end of a clause to the next one.
+pub fn goes_on(ss: &[Stmt], is_last: bool) -> bool
+    ensures value { result ≡ (statements.falls (stmts_of (map stmt_view ss.now)) && not is_last) }
+{
+    falls(ss) && !is_last
+}
+
+/// Whether so many are none.
+pub fn none_left(left: usize) -> bool
+    ensures value { result ≡ (left == 0) }
+{
+    left == 0
+}
+
+/// Whether this statement, with so many after it, is a `fallthrough` that is taken off.
+pub fn is_taken_off(onward: bool, left: usize) -> bool
+    ensures value { result ≡ (onward && (left == 0)) }
+{
+    onward && left == 0
+}
+
+/// A second `default` is told at its clause (92).
+#[tactic(auto, using(crate::proofs::LeafLemmas::both_told, crate::proofs::LeafLemmas::one_told, crate::proofs::LeafLemmas::neither_told))]
+pub fn told_default(
+    flaws: &mut Vec<Flaw>,
+    at: Place,
+    is_default: bool,
+    had: bool,
+) -> Result<(), NoMemory>
+    ensures told { OnOk result (map flaw_view flaws.new.items ≡ map flaw_view flaws.old.items ++ default_flaws at is_default had) }
+{
+    if is_default {
+        if had {
+            and_flaw(*flaws.allocator(), flaws, at, 92)?;
+            return Ok(());
+        }
+        return Ok(());
+    }
+    Ok(())
+}
+
+/// Whether nothing was told since there were so many faults.
+pub fn is_clean(flaws: &Vec<Flaw>, before: usize) -> bool
+    ensures value { result ≡ (length flaws.now.items == before) }
+{
+    flaws.len() == before
+}
+
+/// A `switch` of too many clauses is told where nothing is told of its parts (76).
+#[tactic(auto, using(crate::proofs::LeafLemmas::many_yes, crate::proofs::LeafLemmas::many_few, crate::proofs::LeafLemmas::many_not))]
+pub fn told_many(
+    flaws: &mut Vec<Flaw>,
+    before: usize,
+    at: Place,
+    count: usize,
+) -> Result<(), NoMemory>
+    ensures told { OnOk result (map flaw_view flaws.new.items ≡ map flaw_view flaws.old.items ++ (if length flaws.old.items == before then (if nat_lt clauses_limit count then flaw at 76 ∷ [] else []) else [])) }
+{
+    if is_clean(flaws, before) {
+        if count > 1000 {
+            and_flaw(*flaws.allocator(), flaws, at, 76)?;
+            return Ok(());
+        }
+        return Ok(());
+    }
+    Ok(())
+}
+
+// ---- a short declaration after a turn
+
+/// Whether a statement is a short declaration.
+#[tactic(auto, using(crate::proofs::ViewLemmas::view_Define))]
+pub fn is_define(s: &Stmt) -> bool
+    ensures value { result ≡ is_define (stmt_view s.now) }
+{
+    match &*s.form {
+        StmtForm::Define(_, _) => true,
+        _ => false,
+    }
+}
+
+// Where the first of these stands, or the place of their statement.
+#[tactic(auto, using(crate::proofs::LeafLemmas::first_none, crate::proofs::LeafLemmas::first_some))]
+fn first_of(at: Place, xs: &[Expr]) -> Place
+    ensures value { result ≡ first_place (exprs_of (map expr_view xs.now)) at }
+{
+    if xs.len() == 0 {
+        return at;
+    }
+    place_in(&xs[0])
+}
+
+// No names are declared: the values alone are typed (83).
+fn undeclared(
+    walk: &mut Walk,
+    flaws: &mut Vec<Flaw>,
+    at: Place,
+    xs: &[Expr],
+    ys: &[Expr],
+) -> Result<(), NoMemory>
+    ensures does { OnOk result ((post : walks.Walk → Did) → (out : List statement.CoreStmt) → Does (post_did (t.AStmt (t.DefineStmt at (exprs_of (map expr_view xs.now)) (exprs_of (map expr_view ys.now)))) post) walk.old walk.new flaws.old.items flaws.new.items out out) }
+{
+    left_uses(walk, xs)?;
+    match raws_used(walk, ys) {
+        Ok(raws) => {
+            fault_where_typed(flaws, first_of(at, xs), 83, raws)?;
+            Ok(())
+        }
+        Err(error) => Err(error),
+    }
+}
+
+/// A short declaration is no statement after a turn.
+#[tactic(auto, using(crate::proofs::ViewLemmas::view_Define, crate::proofs::LeafLemmas::define_whole))]
+pub fn told_define(walk: &mut Walk, flaws: &mut Vec<Flaw>, s: &Stmt) -> Result<(), NoMemory>
+    requires define { is_define (stmt_view s.now) ≡ true }
+    ensures does { OnOk result ((post : walks.Walk → Did) → (out : List statement.CoreStmt) → Does (post_did (t.AStmt (stmt_view s.now)) post) walk.old walk.new flaws.old.items flaws.new.items out out) }
+{
+    match &*s.form {
+        StmtForm::Define(xs, ys) => {
+            undeclared(walk, flaws, s.place, xs.as_slice(), ys.as_slice())?;
+            Ok(())
+        }
+        _ => unreachable!(),
+    }
+}
