@@ -1,0 +1,9 @@
+mod KeepLemmas
+mod LoopLemmas
+mod PartLemmas
+mod SizeLemmas
+mod SwitchLemmas
+mod StmtLemmas
+mod PlainLemmas
+mod ShapeLemmas
+mod BodyLemmas

@@ -1,0 +1,4 @@
+pub mod Bodies
+pub mod Both
+pub mod Clauses
+pub mod Left

@@ -1,0 +1,65 @@
+//! The body of a function.
+//!
+//! Go, "Terminating statements", "Declarations and scope", "Labeled statements".
+
+ghost use Rattle.std.specs.Prelude.{[], None, IfOk, OnOk};
+ghost use Rattle.go_syntax.specs.View.{block_view};
+ghost use Rattle.go_callee.specs.Words.{types_of};
+ghost use Rattle.go_statements.specs.Statements as go;
+ghost use Rattle.go_valued.specs.Outcome.{Does};
+ghost use Rattle.go_simple.specs.AroundView.{around_of};
+ghost use Rattle.go_body.specs.Bodies.{Ready};
+
+use crate::stmt::stmts;
+use gj_base::NoMemory;
+use go_answers::answer::Flaw;
+use go_core::statement::CoreStmt;
+use go_labels::Targets;
+use go_leaf::leaf::is_clean;
+use go_leaf::whole::{ends_with, told_whole};
+use go_simple::Around;
+use go_stmt_gone::gone::gone_stmts;
+use go_syntax::tree::Block;
+use go_walk::Walk;
+
+/// The statements of a function's body, whose scope is open.
+pub fn function_body(
+    walk: &mut Walk,
+    flaws: &mut Vec<Flaw>,
+    around: &Around,
+    b: &Block,
+) -> Result<Vec<CoreStmt>, NoMemory>
+    requires ready { Ready around.now walk.old }
+    ensures does { IfOk result (λ out. Does (go.function_body (block_view b.now) (around_of (types_of walk.old.env) around.now [] None)) walk.old walk.new flaws.old.items flaws.new.items [] out.items) }
+    ensures ready { OnOk result (Ready around.now walk.new) }
+{
+    let alloc = *flaws.allocator();
+    let before = flaws.len();
+    let mut out = Vec::new(alloc);
+    let mut targets = Targets::new(alloc);
+    match stmts(
+        walk,
+        flaws,
+        &mut out,
+        around,
+        &mut targets,
+        false,
+        b.stmts.as_slice(),
+    ) {
+        Ok(()) => {
+            let clean = is_clean(flaws, before);
+            let ends = ends_with(walk, out.as_slice());
+            match told_whole(walk, flaws, around, b, clean, ends) {
+                Ok(()) => Ok(out),
+                Err(error) => {
+                    gone_stmts(out);
+                    Err(error)
+                }
+            }
+        }
+        Err(error) => {
+            gone_stmts(out);
+            Err(error)
+        }
+    }
+}

@@ -1,0 +1,143 @@
+//! Statements without statements in them.
+//!
+//! Go, "Statements".
+
+ghost use Rattle.std.specs.Prelude.{◌≡◌, ℕ, false, OnOk, List, Option};
+ghost use Rattle.go_syntax.specs.View.{stmt_view};
+ghost use Rattle.go_callee.specs.Words.{types_of};
+ghost use Rattle.go_labels.specs.Left.{targets_of};
+ghost use Rattle.go_statements.specs.Statements as go;
+ghost use Rattle.go_valued.specs.Outcome.{Does};
+ghost use Rattle.go_simple.specs.AroundView.{around_of};
+ghost use Rattle.go_body.specs.Bodies.{Ready};
+ghost use Rattle.go_leaf.specs.Forms.{has_statements};
+
+use gj_base::NoMemory;
+use go_answers::answer::Flaw;
+use go_assign::top::assign;
+use go_branch::branch::{branch, not_built, refused};
+use go_core::statement::{BranchKind, CoreStmt};
+use go_define::top::define;
+use go_labels::Targets;
+use go_leaf::spare::spare;
+use go_local::decl::decl;
+use go_simple::Around;
+use go_simple::expression::expression;
+use go_simple::returned::returned;
+use go_syntax::tree::{Stmt, StmtForm};
+use go_update::top::{step, update};
+use go_walk::Walk;
+
+/// A statement that has no statements in it.
+pub fn plain(
+    walk: &mut Walk,
+    flaws: &mut Vec<Flaw>,
+    out: &mut Vec<CoreStmt>,
+    around: &Around,
+    targets: &Targets,
+    s: &Stmt,
+) -> Result<(), NoMemory>
+    requires ready { Ready around.now walk.old }
+    requires plain { has_statements (stmt_view s.now) ≡ false }
+    ensures does { OnOk result ((label : Option (List ℕ)) → Does (go.stmt (stmt_view s.now) (around_of (types_of walk.old.env) around.now (targets_of targets.now) label)) walk.old walk.new flaws.old.items flaws.new.items out.old.items out.new.items) }
+{
+    match &*s.form {
+        StmtForm::Empty => Ok(()),
+        StmtForm::Expr(xs) => {
+            expression(walk, flaws, out, s.place, xs.as_slice())?;
+            Ok(())
+        }
+        StmtForm::IncDec(xs, up) => {
+            step(walk, s.place, xs.as_slice(), *up, flaws, out)?;
+            Ok(())
+        }
+        StmtForm::Assign(xs, op, ys) => match op {
+            Some(op) => {
+                update(walk, s.place, *op, xs.as_slice(), ys.as_slice(), flaws, out)?;
+                Ok(())
+            }
+            None => {
+                assign(walk, s.place, xs.as_slice(), ys.as_slice(), flaws, out)?;
+                Ok(())
+            }
+        },
+        StmtForm::Define(xs, ys) => {
+            let names = walk.declared.len();
+            let before = flaws.len();
+            define(walk, s.place, xs.as_slice(), ys.as_slice(), flaws, out)?;
+            spare(walk, flaws.as_slice(), names, before)?;
+            Ok(())
+        }
+        StmtForm::Decl(d) => {
+            let names = walk.declared.len();
+            let before = flaws.len();
+            decl(walk, flaws, out, d)?;
+            spare(walk, flaws.as_slice(), names, before)?;
+            Ok(())
+        }
+        StmtForm::Return(ys) => {
+            returned(walk, flaws, out, around, s.place, ys.as_slice())?;
+            Ok(())
+        }
+        StmtForm::Break(n) => {
+            branch(
+                walk,
+                flaws,
+                out,
+                targets,
+                s.place,
+                BranchKind::Break,
+                false,
+                n,
+            )?;
+            Ok(())
+        }
+        StmtForm::Continue(n) => {
+            branch(
+                walk,
+                flaws,
+                out,
+                targets,
+                s.place,
+                BranchKind::Continue,
+                true,
+                n,
+            )?;
+            Ok(())
+        }
+        // One that ends a clause is taken off there (91).
+        StmtForm::Fallthrough => {
+            refused(walk, flaws, s.place, 91)?;
+            Ok(())
+        }
+        StmtForm::Send(_, _) => {
+            not_built(walk, flaws, s.place, s)?;
+            Ok(())
+        }
+        StmtForm::Range(_, _, _, _) => {
+            not_built(walk, flaws, s.place, s)?;
+            Ok(())
+        }
+        StmtForm::TypeSwitch(_, _, _, _) => {
+            not_built(walk, flaws, s.place, s)?;
+            Ok(())
+        }
+        StmtForm::Select(_) => {
+            not_built(walk, flaws, s.place, s)?;
+            Ok(())
+        }
+        StmtForm::Go(_) => {
+            not_built(walk, flaws, s.place, s)?;
+            Ok(())
+        }
+        StmtForm::Defer(_) => {
+            not_built(walk, flaws, s.place, s)?;
+            Ok(())
+        }
+        StmtForm::Block(_) => unreachable!(),
+        StmtForm::If(_, _, _, _) => unreachable!(),
+        StmtForm::For(_, _, _, _) => unreachable!(),
+        StmtForm::Switch(_, _, _) => unreachable!(),
+        StmtForm::Labeled(_, _) => unreachable!(),
+    }
+}
