@@ -1,0 +1,3 @@
+pub mod DoneLemmas
+mod FunctionLemmas
+mod LoopLemmas
