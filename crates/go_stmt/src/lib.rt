@@ -1,0 +1,15 @@
+//! The check of a package: the least fault that is told of it, or else the program that it is.
+//!
+//! The Go Programming Language Specification (as of Go 1.17), "Packages", "Program execution". The
+//! definitions stand in go_packages (`specs/Checked.antt`).
+#![tactic(auto)]
+
+pub mod before;
+pub mod checking;
+pub mod files;
+pub mod made;
+pub mod verdict;
+
+pub use checking::check;
+pub use files::root_files;
+pub use made::gone_program;
