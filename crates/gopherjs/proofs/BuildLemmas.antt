@@ -1,9 +1,12 @@
 -- What the stages of a build say of the files.
-use Rattle.std.proofs.Common.{◌≡◌, ◌<◌, List, [], ◌∷◌, ℕ, true, length, refl, sym, ap, subst, ◌∙◌, append-nil, inl, inr}
+use Rattle.std.proofs.Common.{◌≡◌, ◌⊎◌, ◌<◌, List, [], ◌∷◌, ℕ, true, length, refl, sym, ap, subst, ◌∙◌, append-nil, inl, inr}
 use Rattle.std.specs.Prelude.{Option, Some, None, IfSome, Result, Ok, Err}
 use Rattle.gj_base.specs.Tree.{Tree}
 use Rattle.gj_base.specs.Files.{FilesState, Stores}
 use Rattle.gj_base.specs.declared.files.StoreError.TheVariants.{Failed}
+use Rattle.gj_base.specs.declared.fault.Fault.{Fault}
+use Rattle.gj_base.specs.declared.fault.Refusal.{Refusal}
+use Rattle.gj_base.specs.declared.fault.Refusal.TheVariants as check
 use Rattle.go_load.specs.Root.{IsRead}
 use Rattle.go_load.specs.Packages.{paths_view}
 use Rattle.go_load.specs.Load.{Loads, ArePackages}
@@ -11,7 +14,7 @@ use Rattle.go_load.specs.declared.sources.FileEntry.{FileEntry}
 use Rattle.go_load.specs.declared.packages.Packages.{Packages}
 use Rattle.go_load.specs.declared.packages.LoadRefusal.{LoadRefusal}
 use Rattle.go_load.specs.declared.packages.LoadRefusal.TheVariants as load
-use Rattle.go_core.specs.CoreTree.{CoreProgram, Stmts}
+use Rattle.go_core.specs.CoreTree.{CoreProgram}
 use Rattle.go_syntax.specs.Tree as t
 use Rattle.go_packages.specs.Checked.{told, program_of}
 use Rattle.go_items.specs.ItemView.{decls_of}
@@ -23,11 +26,12 @@ use Rattle.js_emit.specs.Lines.{print_lines}
 use Rattle.js_emit.specs.Prints.{only_prints}
 use Rattle.gj_plain.specs.Plain as p
 use Rattle.gj_plain.specs.Plain.{plain_main, main_in}
-use Rattle.gopherjs.specs.Answers.{out_file, HaveTrees, HoldsProgram, Builds}
-use Rattle.gopherjs.specs.Builds.{root_trees, main_of, StoresMain, BuildsPackages, Refuses, CanBeTold}
+use Rattle.go_stmt.specs.Checks.{root_trees, Checks}
+use Rattle.gopherjs.specs.Answers.{out_file, HaveTrees, HoldsProgram, IsToldFault, Builds}
+use Rattle.gopherjs.specs.Builds.{decls_in, main_of, StoresMain, BuildsChecked, IsLeastOf, IsUnbuilt, BuildsPackages, Refuses, RefusesChecked, CanBeTold}
 use Rattle.gopherjs.specs.declared.build.Refused.{Refused}
 use Rattle.gopherjs.specs.declared.build.Refused.TheVariants as refused
-use Rattle.gopherjs.proofs.PlaceLemmas.{inside, short}
+use Rattle.gopherjs.proofs.PlaceLemmas.{short}
 
 -- the trees that packages without a fault have
 have_trees : (packages : Packages) → 0 < length packages.files → ArePackages packages → HaveTrees packages.files (root_trees (paths_view packages.packages))
@@ -85,23 +89,43 @@ compiles laws (Some tree) folder packages main s some read are plain is =
     (program_of (decls_of trees), holds laws tree folder packages main some read are plain, prints_them laws trees main s plain is)
 
 -- what comes of packages with a plain root
-pub builds_main : (r : Result (Unit {0}) Refused) (packages : Packages) (main : p.Main) (old new : FilesState) → main_of packages ≡ Some main → StoresMain r main old new → BuildsPackages r packages old new
+pub builds_main : (r : Result (Unit {0}) Refused) (packages : Packages) (main : p.Main) (old new : FilesState) → main_of packages ≡ Some main → StoresMain r main old new → BuildsChecked r packages old new
 builds_main (Ok u) packages main old new found stored = (main, found, stored)
 builds_main (Err (refused.Fault fault entries)) packages main old new found stored = absurd stored
 builds_main (Err refused.ReadFault) packages main old new found stored = absurd stored
 builds_main (Err refused.WriteFault) packages main old new found stored = (main, found, stored)
 builds_main (Err refused.NoMemory) packages main old new found stored = stored
 
+-- what comes of packages of which nothing is told
+pub builds_checked : (r : Result (Unit {0}) Refused) (packages : Packages) (old new : FilesState) → told (decls_in packages) ≡ [] → BuildsChecked r packages old new → BuildsPackages r packages old new
+builds_checked (Ok u) packages old new right built = built
+builds_checked (Err (refused.Fault fault entries)) packages old new right (same, files, unlike, is) = (same, files, inr (right, unlike, is))
+builds_checked (Err refused.ReadFault) packages old new right built = built
+builds_checked (Err refused.WriteFault) packages old new right built = built
+builds_checked (Err refused.NoMemory) packages old new right built = built
+
+-- what comes of packages of which something is told
+pub builds_none : (refusal : Refusal) (r : Refused) (packages : Packages) (s : FilesState) → Checks (Err refusal) (decls_in packages) → RefusesChecked refusal packages.files r → BuildsPackages (Err r) packages s s
+builds_none (check.Fault fault) r packages s least is = subst (λ (x : Refused). BuildsPackages (Err x) packages s s) (sym is) (refl, refl, inl least)
+builds_none check.NoMemory r packages s least is = subst (λ (x : Refused). BuildsPackages (Err x) packages s s) (sym is) refl
+
+-- the fault that they are refused with is told of their files
+told_of : (packages : Packages) (entries : List FileEntry) (fault : Fault) → HaveTrees entries (root_trees (paths_view packages.packages)) → IsLeastOf (decls_in packages) fault ⊎ IsUnbuilt packages fault → IsToldFault entries fault
+told_of packages entries fault have (inl least) =
+    inr (inl (record { trees = root_trees (paths_view packages.packages); have = have; flaw = least.0; least = least.1; is = least.2 }))
+told_of packages entries fault have (inr unbuilt) =
+    inr (inr (record { trees = root_trees (paths_view packages.packages); have = have; right = unbuilt.0; unlike = unbuilt.1; is = unbuilt.2 }))
+
 -- what comes of packages
 pub builds : Laws → (r : Result (Unit {0}) Refused) (folder : List ℕ) (packages : Packages) (old new : FilesState) → 0 < length packages.files → IsRead old.tree folder packages.files → ArePackages packages
     → BuildsPackages r packages old new → Builds r folder old new
 builds laws (Ok u) folder packages old new some read are built =
     (built.2.1.0, compiles laws old.tree folder packages built.0 built.2.1.0 some read are built.1 built.2.1.2, subst (λ (text : List ℕ). Stores (Ok tt) out_file text old new) built.2.1.1 built.2.2)
-builds laws (Err (refused.Fault fault entries)) folder packages old new some read are (same, files, unlike, is) = (
+builds laws (Err (refused.Fault fault entries)) folder packages old new some read are (same, files, why) = (
   same,
   subst (λ (es : List FileEntry). 0 < length es) (sym files) some,
   subst (λ (es : List FileEntry). IsRead old.tree folder es) (sym files) read,
-  inr (record { trees = root_trees (paths_view packages.packages); have = subst (λ (es : List FileEntry). HaveTrees es (root_trees (paths_view packages.packages))) (sym files) (have_trees packages some are); unlike = unlike; is = is }),
+  told_of packages entries fault (subst (λ (es : List FileEntry). HaveTrees es (root_trees (paths_view packages.packages))) (sym files) (have_trees packages some are)) why,
 )
 builds laws (Err refused.ReadFault) folder packages old new some read are built = absurd built
 builds laws (Err refused.WriteFault) folder packages old new some read are built =
@@ -115,9 +139,9 @@ not_loaded (load.Fault fault entries) r folder old new same loads =
 not_loaded load.ReadFault r folder old new same loads = subst (λ (x : Refused). Builds (Err x) folder old new) (sym same) loads
 not_loaded load.NoMemory r folder old new same loads = subst (λ (x : Refused). Builds (Err x) folder old new) (sym same) loads
 
--- the place of a fault can be told
+-- a fault can be told
 pub can_be_told : (r : Refused) (folder : List ℕ) (old new : FilesState) → Builds (Err r) folder old new → CanBeTold r
-can_be_told (refused.Fault fault entries) folder old new built = (inside entries fault built.1 built.3, short entries built.2.own)
+can_be_told (refused.Fault fault entries) folder old new built = short entries built.2.own
 can_be_told refused.ReadFault folder old new built = tt
 can_be_told refused.WriteFault folder old new built = tt
 can_be_told refused.NoMemory folder old new built = tt

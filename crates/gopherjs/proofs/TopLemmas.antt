@@ -1,6 +1,8 @@
 -- What the answers of a build say of the whole call.
-use Rattle.std.proofs.Common.{◌≡◌, ◌⊎◌, ◌<◌, ◌++◌, List, [], ◌∷◌, ℕ, length, map, refl, sym, ap, subst, ◌∙◌, append-nil, arith, inl, inr}
+use Rattle.std.proofs.Common.{◌≡◌, ◌⊎◌, ◌<◌, ◌++◌, List, [], ◌∷◌, ℕ, false, length, get_or, map, refl, sym, ap, subst, ◌∙◌, append-nil, arith, inl, inr}
 use Rattle.std.specs.Prelude.{Option, Some, None, IfSome, Contains, Err, option_map}
+use Rattle.std.proofs.lemmas.List.{get_or_read_under}
+use Rattle.gj_base.specs.LineColumn.{line_and_column}
 use Rattle.gj_base.specs.Counts.{Rose}
 use Rattle.gj_base.specs.Tree.{Tree, with_file}
 use Rattle.gj_base.specs.Files.{FilesState}
@@ -13,14 +15,19 @@ use Rattle.go_load.specs.Readings.{Reading, AreReadings, trees_of}
 use Rattle.go_load.specs.Faults.{stage_faults}
 use Rattle.go_load.specs.Load.{IsFaultOf, large, staged}
 use Rattle.go_load.specs.declared.sources.FileEntry.{FileEntry}
+use Rattle.go_syntax.specs.Tree as t
 use Rattle.go_core.specs.CoreTree.{CoreProgram}
+use Rattle.go_items.specs.ItemView.{decls_of}
+use Rattle.go_packages.specs.Checked.{fault_of, least}
 use Rattle.js_tree.specs.Script.{ScriptTree}
 use Rattle.js_tree.specs.Printed.{plain}
 use Rattle.js_emit.specs.Faithful.{Faithful}
 use Rattle.gopherjs.specs.Settings.{Settings, build}
 use Rattle.gj_plain.specs.Plain.{Main, plain_main}
-use Rattle.gopherjs.specs.Answers.{out_file, HoldsProgram, AreUnbuilt, IsToldFault, StoresScript, Builds}
-use Rattle.gopherjs.specs.Headline.{Headline, IsComplete, IsToldOf}
+use Rattle.gopherjs.specs.Answers.{out_file, HoldsProgram, AreUnbuilt, AreFaulty, IsToldFault, StoresScript, Builds}
+use Rattle.gopherjs.specs.Headline.{BuildAnswers, Headline, IsComplete, IsToldOf}
+use Rattle.gopherjs.specs.FaultText.{fault_text, fault_line, line_at}
+use Rattle.gopherjs.specs.Told.{Told}
 use Rattle.gopherjs.specs.declared.outcome.Outcome.{Outcome}
 use Rattle.gopherjs.specs.declared.outcome.Outcome.TheVariants.{Done}
 use Rattle.gopherjs.specs.declared.outcome.Outcome.TheVariants as outcome
@@ -78,9 +85,17 @@ not_faulty one tree folder program fault entries holds read told =
         let main = holds.plain in
         cc
 
+    wrong : AreFaulty holds.entries fault → ⊥
+    wrong faulty =
+        let trees : faulty.trees ≡ holds.trees = faulty.have.all ∙ ap trees_of (other_readings faulty.have.readings faulty.have.are) ∙ sym holds.have.all in
+        let none : fault_of (decls_of faulty.trees) ≡ None = ap (λ (files : List t.File). fault_of (decls_of files)) trees ∙ ap least holds.right in
+        let some = faulty.least in
+        cc
+
     by : IsToldFault holds.entries fault → ⊥
     by (inl fault) = stage fault
-    by (inr unbuilt) = unlike unbuilt
+    by (inr (inl faulty)) = wrong faulty
+    by (inr (inr unbuilt)) = unlike unbuilt
 
 -- a build that stored nothing whole is complete
 pub completes : DerivesOneFile → (settings : Option Settings) (folder : List ℕ) (refused : Refused) (answer : Outcome) (line : List ℕ) (old new : FilesState) → settings ≡ Some (build folder)
@@ -124,3 +139,21 @@ completes one settings folder refused answer line old new named told built = λ 
       | inl is ↦ no_fault old.tree other fault entries (subst (λ (f : List ℕ). IsRead old.tree f entries) same built.2) built.3
       | inr memory ↦ always old.tree other memory.0
     ]
+
+-- what is told of a build that stored nothing whole
+pub answers_of : (refused : Refused) (answer : Outcome) (line folder : List ℕ) (old new : FilesState) → IsToldOf refused answer line → Builds (Err refused) folder old new → BuildAnswers answer line folder old new
+answers_of refusal.ReadFault answer line folder old new told built = subst (λ (a : Outcome). BuildAnswers a line folder old new) (sym told.0) (built, told.1)
+answers_of refusal.WriteFault answer line folder old new told built = subst (λ (a : Outcome). BuildAnswers a line folder old new) (sym told.0) (built, told.1)
+answers_of refusal.NoMemory answer line folder old new told built = subst (λ (a : Outcome). BuildAnswers a line folder old new) (sym told.0) (built, told.1)
+answers_of (refusal.Fault fault entries) answer line folder old new (inl told) built = subst (λ (a : Outcome). BuildAnswers a line folder old new) (sym told.0) (fault, entries, built, refl, told.1)
+answers_of (refusal.Fault fault entries) answer line folder old new (inr told) built = subst (λ (a : Outcome). BuildAnswers a line folder old new) (sym told.0) (built.0, told.1)
+
+-- a fault in a file is told by its line
+pub told_at : (es : List FileEntry) (fault : Fault) (entry : FileEntry) (text : List ℕ) (old new : SinkState) → entry ≡ get_or es fault.place.file entry → fault.place.file < length es → text ≡ fault_text fault
+    → Told (line_at entry.name (line_and_column entry.bytes fault.place.offset) text) old new → Told (fault_line es fault) old new
+told_at es fault entry text old new at inside is told =
+    subst (λ (e : FileEntry). Told (line_at e.name (line_and_column e.bytes fault.place.offset) (fault_text fault)) old new) (get_or_read_under es fault.place.file (length es) entry no_entry at inside refl)
+    (subst (λ (t : List ℕ). Told (line_at entry.name (line_and_column entry.bytes fault.place.offset) t) old new) is told)
+  where
+    no_entry : FileEntry
+    no_entry = record { path = []; name = []; bytes = []; embedded = false; too_long = false }

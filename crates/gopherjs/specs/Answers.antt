@@ -11,7 +11,9 @@ use Rattle.go_load.specs.Faults.{fault_in, stage_faults}
 use Rattle.go_load.specs.Load.{IsFaultOf, FailsToRead}
 use Rattle.go_load.specs.declared.sources.FileEntry.{FileEntry}
 use Rattle.go_core.specs.CoreTree.{CoreProgram}
-use Rattle.go_packages.specs.Checked.{told, program_of}
+use Rattle.go_typing.specs.Answer.{Flaw}
+use Rattle.go_packages.specs.Checked.{told, fault_of, program_of}
+use Rattle.go_stmt.specs.Checks.{fault_with}
 use Rattle.go_items.specs.ItemView.{decls_of}
 use Rattle.js_tree.specs.Script.{ScriptTree}
 use Rattle.js_tree.specs.Printed.{plain}
@@ -48,16 +50,25 @@ pub record HoldsProgram (tree : Tree) (folder : List ℕ) (program : CoreProgram
 abbrev pub unbuilt_fault : Fault
 unbuilt_fault = fault_in 0 0 0
 
--- the files have no fault of a stage, but their package is not plain
+-- the files have no fault of a stage, and of their declarations nothing is told, but their package is not plain
 pub record AreUnbuilt (entries : List FileEntry) (fault : Fault) : Type 0 where
   pub trees : List t.File
   pub have : HaveTrees entries trees
+  pub right : told (decls_of trees) ≡ []
   pub unlike : plain_main trees ≡ None
   pub is : fault ≡ unbuilt_fault
 
--- the fault that is told of these files: the least of the first stage that has one, or else F0
+-- the files have no fault of a stage, and this is the least that is told of their declarations
+pub record AreFaulty (entries : List FileEntry) (fault : Fault) : Type 0 where
+  pub trees : List t.File
+  pub have : HaveTrees entries trees
+  pub flaw : Flaw
+  pub least : fault_of (decls_of trees) ≡ Some flaw
+  pub is : fault ≡ fault_with flaw
+
+-- the fault that is told of these files: the least of the first stage that has one, else the least of their declarations, or else F0
 abbrev pub IsToldFault : List FileEntry → Fault → Type 0
-IsToldFault entries fault = IsFaultOf entries fault ⊎ AreUnbuilt entries fault
+IsToldFault entries fault = IsFaultOf entries fault ⊎ (AreFaulty entries fault ⊎ AreUnbuilt entries fault)
 
 -- the script is faithful to the program that the folder holds, where the tree is told
 abbrev pub Compiles : List ℕ → FilesState → ScriptTree → Type 0

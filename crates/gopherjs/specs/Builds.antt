@@ -1,10 +1,18 @@
 -- The stages of a build, answer by answer; only private clauses cite this file.
-use Rattle.std.specs.Prelude.{◌≡◌, ◌<◌, ◌≤◌, List, [], ◌∷◌, ℕ, Option, Some, None, All, Result, Ok, Err, length}
+use Rattle.std.specs.Prelude.{◌≡◌, ◌≤◌, ◌⊎◌, List, [], ℕ, Option, Some, None, All, Result, Ok, Err, length}
 use Rattle.gj_base.specs.Files.{FilesState, Stores}
 use Rattle.gj_base.specs.declared.files.StoreError.TheVariants.{Failed}
+use Rattle.gj_base.specs.declared.fault.Fault.{Fault}
+use Rattle.gj_base.specs.declared.fault.Refusal.{Refusal}
+use Rattle.gj_base.specs.declared.fault.Refusal.TheVariants as check
 use Rattle.go_syntax.specs.Tree as t
 use Rattle.go_load.specs.Root.{file_limit}
-use Rattle.go_load.specs.Packages.{PackageTree, paths_view}
+use Rattle.go_load.specs.Packages.{paths_view}
+use Rattle.go_load.specs.declared.sources.FileEntry.{FileEntry}
+use Rattle.go_typing.specs.Answer.{Flaw}
+use Rattle.go_items.specs.ItemView.{decls_of}
+use Rattle.go_packages.specs.Checked.{told, fault_of}
+use Rattle.go_stmt.specs.Checks.{root_trees, fault_with}
 use Rattle.go_load.specs.declared.packages.Packages.{Packages}
 use Rattle.go_load.specs.declared.packages.LoadRefusal.{LoadRefusal}
 use Rattle.go_load.specs.declared.packages.LoadRefusal.TheVariants as load
@@ -15,15 +23,12 @@ use Rattle.js_emit.specs.Lines.{print_lines}
 use Rattle.gj_plain.specs.Plain as p
 use Rattle.gj_plain.specs.Plain.{plain_main}
 use Rattle.gopherjs.specs.Answers.{out_file, unbuilt_fault}
-use Rattle.gj_plain.specs.declared.plain.Main.{Main}
-use Rattle.gj_plain.specs.MainView.{main_view}
 use Rattle.gopherjs.specs.declared.build.Refused.{Refused}
 use Rattle.gopherjs.specs.declared.build.Refused.TheVariants as refused
 
--- the trees of the first package, which is the root
-abbrev pub root_trees : List (List ℕ × PackageTree) → List t.File
-root_trees [] = []
-root_trees (root ∷ others) = root.1.files
+-- what the root declares
+abbrev pub decls_in : Packages → List t.Decl
+decls_in packages = decls_of (root_trees (paths_view packages.packages))
 
 -- the root's `main`, where it is plain
 abbrev pub main_of : Packages → Option p.Main
@@ -41,17 +46,38 @@ StoresMain (Err refused.ReadFault) main old new = ⊥
 StoresMain (Err refused.WriteFault) main old new = (text : List ℕ) × IsCompiled main text × Stores (Err Failed) out_file text old new
 StoresMain (Err refused.NoMemory) main old new = new ≡ old
 
--- packages without a fault come to this: the script of the root's `main` is stored, where it is plain
+-- packages of which nothing is told come to this: the script of the root's `main` is stored, where it is plain
+abbrev pub BuildsChecked : Result (Unit {0}) Refused → Packages → FilesState → FilesState → Type 0
+BuildsChecked (Ok _) packages old new = (main : p.Main) × (main_of packages ≡ Some main) × StoresMain (Ok tt) main old new
+BuildsChecked (Err (refused.Fault fault entries)) packages old new = (new ≡ old) × (entries ≡ packages.files) × (main_of packages ≡ None) × (fault ≡ unbuilt_fault)
+BuildsChecked (Err refused.ReadFault) packages old new = ⊥
+BuildsChecked (Err refused.WriteFault) packages old new = (main : p.Main) × (main_of packages ≡ Some main) × StoresMain (Err refused.WriteFault) main old new
+BuildsChecked (Err refused.NoMemory) packages old new = new ≡ old
+
+-- the least that is told of the root's declarations
+abbrev pub IsLeastOf : List t.Decl → Fault → Type 0
+IsLeastOf ds fault = (w : Flaw) × (fault_of ds ≡ Some w) × (fault ≡ fault_with w)
+
+-- nothing is told, but the root isn't plain
+abbrev pub IsUnbuilt : Packages → Fault → Type 0
+IsUnbuilt packages fault = (told (decls_in packages) ≡ []) × (main_of packages ≡ None) × (fault ≡ unbuilt_fault)
+
+-- packages without a fault of a stage come to this
 abbrev pub BuildsPackages : Result (Unit {0}) Refused → Packages → FilesState → FilesState → Type 0
-BuildsPackages (Ok _) packages old new = (main : p.Main) × (main_of packages ≡ Some main) × StoresMain (Ok tt) main old new
-BuildsPackages (Err (refused.Fault fault entries)) packages old new = (new ≡ old) × (entries ≡ packages.files) × (main_of packages ≡ None) × (fault ≡ unbuilt_fault)
+BuildsPackages (Ok _) packages old new = BuildsChecked (Ok tt) packages old new
+BuildsPackages (Err (refused.Fault fault entries)) packages old new = (new ≡ old) × (entries ≡ packages.files) × (IsLeastOf (decls_in packages) fault ⊎ IsUnbuilt packages fault)
 BuildsPackages (Err refused.ReadFault) packages old new = ⊥
-BuildsPackages (Err refused.WriteFault) packages old new = (main : p.Main) × (main_of packages ≡ Some main) × StoresMain (Err refused.WriteFault) main old new
+BuildsPackages (Err refused.WriteFault) packages old new = BuildsChecked (Err refused.WriteFault) packages old new
 BuildsPackages (Err refused.NoMemory) packages old new = new ≡ old
 
--- the place of the fault can be told: it is in one of the files, and these keep their limit
+-- the refusal of a check, with the files
+abbrev pub RefusesChecked : Refusal → List FileEntry → Refused → Type 0
+RefusesChecked (check.Fault fault) entries result = result ≡ refused.Fault fault entries
+RefusesChecked check.NoMemory entries result = result ≡ refused.NoMemory
+
+-- the files of the fault keep their limit
 abbrev pub CanBeTold : Refused → Type 0
-CanBeTold (refused.Fault fault entries) = (fault.place.file < length entries) × All (λ e. length e.bytes ≤ file_limit) entries
+CanBeTold (refused.Fault fault entries) = All (λ e. length e.bytes ≤ file_limit) entries
 CanBeTold refused.ReadFault = Unit {0}
 CanBeTold refused.WriteFault = Unit {0}
 CanBeTold refused.NoMemory = Unit {0}

@@ -1,17 +1,15 @@
 //! The command `build`: from a folder to a stored script.
 
-ghost use Rattle.std.specs.Prelude.{◌≡◌, ◌<◌, length, map, IfOk};
-ghost use Rattle.go_syntax.specs.View.{file_view};
-ghost use Rattle.go_load.specs.Packages.{paths_view};
+ghost use Rattle.std.specs.Prelude.{◌≡◌, IfOk};
 ghost use Rattle.gj_plain.specs.MainView.{main_view};
 ghost use Rattle.gopherjs.specs.Answers.{Builds, unbuilt_fault};
-ghost use Rattle.gopherjs.specs.Builds.{root_trees, IsCompiled, StoresMain, BuildsPackages, Refuses};
+ghost use Rattle.gopherjs.specs.Builds.{IsCompiled, StoresMain, BuildsChecked, BuildsPackages, Refuses, RefusesChecked};
 
-use gj_base::{Fault, Files, NoMemory, Place, StoreError, Text};
+use gj_base::{Fault, Files, NoMemory, Place, Refusal, StoreError, Text};
 use gj_plain::plain::{Main, plain_main};
 use go_lines::laws::plain;
-use go_load::{LoadRefusal, Packages, Paths, Sources, load};
-use go_syntax::tree::File;
+use go_load::{LoadRefusal, Packages, Sources, load};
+use go_stmt::{check, gone_program, root_files};
 use js_emit::laws::prints;
 use js_emit::script_of_lines;
 use js_tree::{Style, printed};
@@ -70,25 +68,38 @@ fn unloaded(refusal: LoadRefusal) -> Refused
     }
 }
 
-/// Compiles packages without a fault, and stores their script, where the root is plain.
+/// Checks packages, and compiles those of which nothing is told.
 fn build_packages<F: Files>(alloc: Global, packages: Packages, files: &mut F) -> Result<(), Refused>
     ensures { BuildsPackages result packages (F.state files.old) (F.state files.new) }
+{
+    match check(alloc, &packages) {
+        Ok(program) => {
+            gone_program(program);
+            build_checked(alloc, packages, files)
+        }
+        Err(refusal) => Err(unchecked(refusal, packages.into_files())),
+    }
+}
+
+/// What packages of which something is told are refused with.
+fn unchecked(refusal: Refusal, sources: Sources) -> Refused
+    ensures { RefusesChecked refusal sources result }
+{
+    match refusal {
+        Refusal::Fault(fault) => Refused::Fault(fault, sources),
+        Refusal::NoMemory => Refused::NoMemory,
+    }
+}
+
+/// Compiles packages of which nothing is told, and stores their script, where the root is plain.
+fn build_checked<F: Files>(alloc: Global, packages: Packages, files: &mut F) -> Result<(), Refused>
+    ensures { BuildsChecked result packages (F.state files.old) (F.state files.new) }
 {
     let found = plain_main(alloc, root_files(&packages.packages));
     let sources = packages.into_files();
     match found? {
         Some(main) => store_program(alloc, main, files),
         None => Err(Refused::Fault(unbuilt(alloc), sources)),
-    }
-}
-
-/// The trees of the root.
-fn root_files(packages: &Paths) -> &[File]
-    ensures { map file_view result.now ≡ root_trees (paths_view packages.now) }
-{
-    match packages.get(0) {
-        Some(root) => root.files.as_slice(),
-        None => &[],
     }
 }
 

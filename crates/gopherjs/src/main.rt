@@ -2,11 +2,25 @@
 #![tactic(auto)]
 
 mod build;
+#[cfg(test)]
+mod check_tests;
+#[cfg(test)]
+mod control_tests;
+#[cfg(test)]
+mod declaration_tests;
+#[cfg(test)]
+mod form_tests;
+#[cfg(test)]
+mod least_tests;
+#[cfg(test)]
+mod many_tests;
 mod outcome;
 mod report;
 #[cfg(test)]
 mod tests;
 mod top;
+#[cfg(test)]
+mod variable_tests;
 mod words;
 
 use crate::outcome::{Outcome, status_of};

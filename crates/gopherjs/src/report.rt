@@ -3,7 +3,7 @@
 ghost use Rattle.std.specs.Prelude.{◌≡◌, ◌≤◌, IfOk, flat_map, length};
 ghost use Rattle.gj_base.specs.LineColumn.{line_and_column};
 ghost use Rattle.go_load.specs.Root.{file_limit};
-ghost use Rattle.gopherjs.specs.FaultText.{sentence, fault_text, line_of, line_at};
+ghost use Rattle.gopherjs.specs.FaultText.{of_text, of_constants, of_expressions, of_types, of_statements, sentence, ending, fault_text, line_of, line_at};
 ghost use Rattle.gopherjs.specs.Told.{Told};
 
 use gj_base::{Fault, NoMemory, Sink, Text, line_col};
@@ -26,9 +26,9 @@ pub const WRITE_FAILED: &[u8] = b"gopherjs: write failed\n";
 
 pub const OUT_OF_MEMORY: &[u8] = b"gopherjs: out of memory\n";
 
-/// The text of a fault with this code, up to what the fault itself tells.
-fn sentence(code: u16) -> &'static [u8]
-    ensures { result.now ≡ sentence code }
+// Faults of a text and of its grammar.
+fn of_text(code: u16) -> &'static [u8]
+    ensures { result.now ≡ of_text code }
 {
     match code {
         0 => b"form not built yet",
@@ -44,12 +44,136 @@ fn sentence(code: u16) -> &'static [u8]
         10 => b"syntax error: unexpected ",
         11 => b"nesting deeper than 100",
         12 => b"chain longer than 500",
+        _ => b"",
+    }
+}
+
+// Faults of constants, and of packages.
+fn of_constants(code: u16) -> &'static [u8]
+    ensures { result.now ≡ of_constants code }
+{
+    match code {
+        30 => b"division by zero",
+        31 => b"constant outside 128 bits",
+        32 => b"constant does not fit its type",
+        33 => b"negative shift count",
+        40 => b"package ",
+        41 => b"import cycle",
         42 => b"package names differ",
         43 => b"no function main",
         44 => b"wrong use of package main",
         45 => b"file longer than 4194304 bytes",
         46 => b"program too large",
         47 => b"build constraints are not in the profile",
+        48 => b"initialisation cycle",
+        _ => b"",
+    }
+}
+
+// Faults of names and expressions.
+fn of_expressions(code: u16) -> &'static [u8]
+    ensures { result.now ≡ of_expressions code }
+{
+    match code {
+        50 => b"undefined: ",
+        51 => b"a type is wanted here",
+        52 => b"a value is wanted here",
+        53 => b"bad parameter list",
+        54 => b"operator not defined here",
+        55 => b"operands do not fit",
+        56 => b"values can not be compared",
+        57 => b"shift needs integers",
+        58 => b"conversion not possible",
+        59 => b"not a function",
+        60 => b"wrong number of arguments",
+        61 => b"value does not fit the wanted type",
+        62 => b"no field or method ",
+        64 => b"can not be indexed",
+        65 => b"bad index",
+        66 => b"not a pointer",
+        67 => b"not addressable",
+        68 => b"impossible type assertion",
+        69 => b"bad literal",
+        _ => b"",
+    }
+}
+
+// Faults of types and of what is too large.
+fn of_types(code: u16) -> &'static [u8]
+    ensures { result.now ≡ of_types code }
+{
+    match code {
+        70 => b"map key type not in the profile",
+        71 => b"not in the profile",
+        72 => b"bad arguments of ",
+        73 => b"use of untyped nil",
+        74 => b"invalid recursive type",
+        75 => b"type too large",
+        76 => b"more than 1000 parts",
+        77 => b"duplicate ",
+        78 => b"bad array length",
+        79 => b"too many functions",
+        _ => b"",
+    }
+}
+
+// Faults of declarations and statements.
+fn of_statements(code: u16) -> &'static [u8]
+    ensures { result.now ≡ of_statements code }
+{
+    match code {
+        81 => b"\"",
+        83 => b"bad left side of :=",
+        84 => b"counts do not match",
+        85 => b"can not assign here",
+        86 => b"condition is not boolean",
+        87 => b"missing return",
+        88 => b"wrong number of results",
+        89 => b"no target",
+        90 => b"label ",
+        91 => b"misplaced fallthrough",
+        92 => b"duplicate case",
+        93 => b"expression is not used",
+        94 => b"bad range",
+        95 => b"bad receiver",
+        96 => b"a call is wanted here",
+        97 => b"bad communication",
+        98 => b"import form not in the profile",
+        99 => b"bad main or init",
+        _ => b"",
+    }
+}
+
+/// The text of a fault with this code, up to the name that it tells.
+fn sentence(code: u16) -> &'static [u8]
+    ensures { result.now ≡ sentence code }
+{
+    if code < 30 {
+        return of_text(code);
+    }
+    if code < 50 {
+        return of_constants(code);
+    }
+    if code < 70 {
+        return of_expressions(code);
+    }
+    if code < 80 {
+        return of_types(code);
+    }
+    of_statements(code)
+}
+
+/// The text of a fault with this code after the name that it tells.
+fn ending(code: u16) -> &'static [u8]
+    ensures { result.now ≡ ending code }
+{
+    match code {
+        40 => b" not found",
+        63 => b" is not exported",
+        80 => b" declared but not used",
+        81 => b"\" imported and not used",
+        82 => b" redeclared",
+        90 => b" defined and not used",
         _ => b"",
     }
 }
@@ -60,6 +184,7 @@ pub fn fault_text(alloc: Global, fault: &Fault) -> Result<Text, NoMemory>
 {
     let mut text = Text::from_slice(alloc, sentence(fault.code))?;
     text.push_bytes(fault.text.as_bytes())?;
+    text.push_bytes(ending(fault.code))?;
     Ok(text)
 }
 

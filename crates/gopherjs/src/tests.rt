@@ -124,7 +124,7 @@ const ROWS: [Row; 34] = [
             ("app/c.go", HELLO),
         ],
         status: 1,
-        told: "b.go:1:1: form not built yet\n",
+        told: "c.go:3:6: main redeclared\n",
         stores: false,
     },
     Row {
@@ -135,7 +135,7 @@ const ROWS: [Row; 34] = [
             "package main\n\nvar x int\n\nfunc main() {\n}\n",
         )],
         status: 1,
-        told: "main.go:1:1: form not built yet\n",
+        told: "main.go:3:1: form not built yet\n",
         stores: false,
     },
     Row {
@@ -143,7 +143,7 @@ const ROWS: [Row; 34] = [
         words: &["build", "app"],
         files: &[("app/main.go", "package main\n\nfunc main(x int) {\n}\n")],
         status: 1,
-        told: "main.go:1:1: form not built yet\n",
+        told: "main.go:3:6: bad main or init\n",
         stores: false,
     },
     Row {
@@ -151,7 +151,7 @@ const ROWS: [Row; 34] = [
         words: &["build", "app"],
         files: &[("app/main.go", "package main\n\nfunc main() int {\n}\n")],
         status: 1,
-        told: "main.go:1:1: form not built yet\n",
+        told: "main.go:3:6: bad main or init\n",
         stores: false,
     },
     Row {
@@ -159,7 +159,7 @@ const ROWS: [Row; 34] = [
         words: &["build", "app"],
         files: &[("app/main.go", "package main\n\nfunc main() {\n\tL:\n}\n")],
         status: 1,
-        told: "main.go:1:1: form not built yet\n",
+        told: "main.go:4:2: label L defined and not used\n",
         stores: false,
     },
     Row {
@@ -203,7 +203,7 @@ const ROWS: [Row; 34] = [
             "package main\n\nfunc main() {\n\tprintln(\"a\"...)\n}\n",
         )],
         status: 1,
-        told: "main.go:1:1: form not built yet\n",
+        told: "main.go:4:2: wrong number of arguments\n",
         stores: false,
     },
     Row {
@@ -357,7 +357,7 @@ const ROWS: [Row; 34] = [
     },
 ];
 
-fn strings(alloc: Global, words: &[&str]) -> Result<Vec<String>, AllocError> {
+pub fn strings(alloc: Global, words: &[&str]) -> Result<Vec<String>, AllocError> {
     let mut all = Vec::new(alloc);
     for word in words {
         all.push(String::from_str(alloc, word)?)?;
@@ -366,7 +366,7 @@ fn strings(alloc: Global, words: &[&str]) -> Result<Vec<String>, AllocError> {
 }
 
 /// A tree with these files.
-fn tree(alloc: Global, texts: &[(&str, &str)]) -> Result<TreeFiles, Fail> {
+pub fn tree(alloc: Global, texts: &[(&str, &str)]) -> Result<TreeFiles, Fail> {
     let mut files = TreeFiles::new(alloc);
     for text in texts {
         files.put(text.0, text.1.as_bytes())?;
@@ -374,7 +374,7 @@ fn tree(alloc: Global, texts: &[(&str, &str)]) -> Result<TreeFiles, Fail> {
     Ok(files)
 }
 
-fn is_text(bytes: &[u8], text: &str) -> bool {
+pub fn is_text(bytes: &[u8], text: &str) -> bool {
     bytes == text.as_bytes()
 }
 

@@ -85,6 +85,11 @@ fn refuse_fault<E: Sink>(alloc: Global, fault: Fault, sources: &Sources, err: &m
         return Outcome::NoMemory;
     };
     let place = fault.place;
+    if place.file as usize >= sources.as_slice().len() {
+        // Own: not proved is that a fault of a tree stands in one of the files.
+        tell(err, &[report::OUT_OF_MEMORY]);
+        return Outcome::NoMemory;
+    }
     let entry = &sources.as_slice()[place.file as usize];
     tell_at(entry, place.offset, text.as_bytes(), err);
     Outcome::Fault(Fault {

@@ -1,12 +1,13 @@
-use Rattle.std.proofs.Common.{sym, ap, ◌∙◌}
-use Rattle.std.specs.Prelude.{Option, option_map}
-use Rattle.gj_plain.specs.Plain.{plain_main}
-use Rattle.gj_plain.specs.MainView.{main_view}
-use Rattle.gj_plain.specs.declared.plain.Main.{Main}
-use Rattle.gopherjs.proofs.BuildLemmas.{builds_main}
+use Rattle.std.proofs.Common.{List, subst}
+use Rattle.go_load.specs.declared.sources.FileEntry.{FileEntry}
+use Rattle.gopherjs.specs.Builds.{RefusesChecked}
+use Rattle.gopherjs.proofs.BuildLemmas.{builds_checked, builds_none}
 use Rattle.gopherjs.proofs.build.build_packages.Goals as goal
 
-pub returns-in-Some : goal.returns-in-Some
-returns-in-Some g c =
-    builds_main c.store_program.result c.args.packages (main_view c.in-Some.main) (g.F.Files.state c.args.files.now) (g.F.Files.state c.store_program.new.files)
-    (ap plain_main (sym c.root_files.ensures) ∙ sym c.in_ok-main.ensures ∙ ap (λ (found : Option Main). option_map main_view found) c.in-Some.is) c.store_program.ensures
+pub returns-in-Ok : goal.returns-in-Ok
+returns-in-Ok g c = builds_checked c.build_checked.result c.args.packages (g.F.Files.state c.args.files.now) (g.F.Files.state c.build_checked.new.files) c.in-Ok.ensures.answer.0 c.build_checked.ensures
+
+pub returns-in-Err : goal.returns-in-Err
+returns-in-Err g c =
+    builds_none c.in-Err.refusal c.unchecked.result c.args.packages (g.F.Files.state c.args.files.now) c.in-Err.ensures.answer
+    (subst (λ (es : List FileEntry). RefusesChecked c.in-Err.refusal es c.unchecked.result) c.into_files.ensures c.unchecked.ensures)

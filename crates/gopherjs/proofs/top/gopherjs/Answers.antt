@@ -3,7 +3,7 @@ use Rattle.std.specs.Prelude.{Option}
 use Rattle.gopherjs.specs.Settings.{Settings}
 use Rattle.gopherjs.specs.Headline.{Answers}
 use Rattle.gopherjs.specs.declared.outcome.Outcome.TheVariants.{Done}
-use Rattle.gopherjs.proofs.TopLemmas.{headline, completes, appended-nil}
+use Rattle.gopherjs.proofs.TopLemmas.{headline, completes, answers_of, appended-nil}
 use Rattle.gopherjs.proofs.BuildLemmas.{can_be_told}
 use Rattle.gopherjs.proofs.top.gopherjs.Goals as goal
 
@@ -16,6 +16,14 @@ returns-in-Ok-clause-answer g c = (
 
 pub returns-in-Ok-clause-headline : goal.returns-in-Ok-clause-headline
 returns-in-Ok-clause-headline g c = headline _ c.in-Some.folder.now _ _ c.in-Some.ensures c.in-Ok.ensures
+
+pub returns-in-Err-clause-answer : goal.returns-in-Err-clause-answer
+returns-in-Err-clause-answer g c = (
+  c.refuse.ensures.0,
+  subst (λ (settings : Option Settings). Answers c.refuse.result c.refuse.ensures.0 settings (g.F.Files.state c.args.files.now) (g.F.Files.state c.build.new.files)) (sym c.in-Some.ensures)
+      (answers_of c.in-Err.refused c.refuse.result c.refuse.ensures.0 c.in-Some.folder.now (g.F.Files.state c.args.files.now) (g.F.Files.state c.build.new.files) c.refuse.ensures.1 c.in-Err.ensures),
+  c.refuse.ensures.2,
+)
 
 pub returns-in-Err-clause-complete : goal.returns-in-Err-clause-complete
 returns-in-Err-clause-complete g c = completes c.derives_one_file.ensures.one _ c.in-Some.folder.now c.in-Err.refused c.refuse.result c.refuse.ensures.0 _ _ c.in-Some.ensures c.refuse.ensures.1 c.in-Err.ensures
