@@ -27,8 +27,8 @@ echo "gofmt -l, processor time:"
 timed "%U s" gofmt -l app
 echo "build, processor time:"
 timed "%U s" "$program" build app
-if [ "$(cat told)" != "a.go:1:1: form not built yet" ]; then
-    echo "the files should have no fault of the lexical, syntax and load stages, but: $(cat told)"
+if [ "$(cat told)" != "a.go:1:1: no function main" ]; then
+    echo "the files should have no fault of loading but that there is no main, but: $(cat told)"
     exit 1
 fi
 peak=$(timed "%M" "$program" build app | sort -n | tail -1)

@@ -1,7 +1,8 @@
 """Writes four Go files of up to 4 MiB each into a folder: declarations of Go's library, in one package.
 
 Imports are left out, and so are sources with what the profile's grammar lacks: floats, imaginary numbers, `goto`,
-build constraints and type parameters. The names then mean nothing, which neither gofmt nor `load` looks at.
+build constraints and type parameters. The names then mean nothing, which neither gofmt nor `load` looks at. No function is named `main`, so
+that the build ends after loading.
 """
 import glob
 import os
@@ -14,7 +15,8 @@ GENERIC = re.compile(rb"^(func|type)\s+(\([^)]*\)\s*)?\w+\[[A-Z]\w*[ ,\]]|\w\[[A
 IMPORTS = re.compile(rb"^import\s+(\((.|\n)*?^\)|.*)\n", re.M)
 PACKAGE = re.compile(rb"^package \w+.*\n", re.M)
 HEAD = b"package main\n"
-CLOSE = b"\nfunc main() {\n}\n"
+CLOSE = b"\n"
+MAIN = re.compile(rb"^func main\(", re.M)
 
 
 def declarations():
@@ -32,7 +34,7 @@ def declarations():
         body = IMPORTS.sub(b"", text[clause.end() :])
         # A function without a body is not in the profile.
         if not re.search(rb"^func [^{]*$", body, re.M):
-            yield body
+            yield MAIN.sub(b"func entry(", body)
 
 
 def main():
