@@ -1,4 +1,4 @@
-//! Programs with many clauses and many functions, at the limit and past it.
+//! Programs with many clauses, at the limit and past it.
 
 use crate::check_tests::check_told;
 use gj_base::{Text, TreeFiles};
@@ -47,46 +47,6 @@ fn clauses_of_a_switch(rt: HostRuntime) -> Result<(), Fail> {
         rt.alloc(),
         files,
         "a-clause-too-many-with-a-fault",
-        other,
-    )?;
-    Ok(())
-}
-
-/// `main` at line 3, and so many functions more from line 5 on.
-fn functions(alloc: Global, count: u32, after: &str) -> Result<TreeFiles, Fail> {
-    many(
-        alloc,
-        "package main\n\nfunc main() {\n}\n",
-        "func _() {}\n",
-        count,
-        after,
-    )
-}
-
-/// With the two functions that each program has besides its own there are 65535 at most.
-#[test]
-fn functions_of_a_program(rt: HostRuntime) -> Result<(), Fail> {
-    let files = functions(rt.alloc(), 65532, "")?;
-    check_told(&rt, rt.alloc(), files, "all-functions", UNBUILT)?;
-    let files = functions(rt.alloc(), 65533, "")?;
-    let generated = "main.go:1:1: too many functions\n";
-    check_told(
-        &rt,
-        rt.alloc(),
-        files,
-        "a-generated-function-too-many",
-        generated,
-    )?;
-    let files = functions(rt.alloc(), 65535, "")?;
-    let past = "main.go:65539:1: too many functions\n";
-    check_told(&rt, rt.alloc(), files, "a-function-too-many", past)?;
-    let files = functions(rt.alloc(), 65533, "const a = z\n")?;
-    let other = "main.go:65538:11: undefined: z\n";
-    check_told(
-        &rt,
-        rt.alloc(),
-        files,
-        "a-function-too-many-after-a-fault",
         other,
     )?;
     Ok(())
