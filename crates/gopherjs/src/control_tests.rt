@@ -96,7 +96,7 @@ const CASES: [Case; 68] = [
     },
     Case {
         name: "return-in-both-branches",
-        source: "package main\n\nfunc f(a bool) int {\n\tif a {\n\t\treturn 1\n\t} else {\n\t\treturn 2\n\t}\n}\n\nfunc main() {\n}\n",
+        source: "package main\n\nfunc f(a bool) int {\n\tif a {\n\t\treturn 1\n\t} else {\n\t\treturn 4\n\t}\n}\n\nfunc main() {\n}\n",
         told: "main.go:1:1: form not built yet\n",
     },
     Case {
@@ -111,7 +111,7 @@ const CASES: [Case; 68] = [
     },
     Case {
         name: "a-switch-with-default-at-the-end",
-        source: "package main\n\nfunc f(a int) int {\n\tswitch a {\n\tcase 1:\n\t\tfallthrough\n\tdefault:\n\t\treturn 2\n\t}\n}\n\nfunc main() {\n}\n",
+        source: "package main\n\nfunc f(a int) int {\n\tswitch a {\n\tcase 1:\n\t\tfallthrough\n\tdefault:\n\t\treturn 4\n\t}\n}\n\nfunc main() {\n}\n",
         told: "main.go:1:1: form not built yet\n",
     },
     Case {
@@ -141,7 +141,7 @@ const CASES: [Case; 68] = [
     },
     Case {
         name: "return-with-two-values-for-one",
-        source: "package main\n\nfunc f() int {\n\treturn 1, 2\n}\n\nfunc main() {\n}\n",
+        source: "package main\n\nfunc f() int {\n\treturn 1, 4\n}\n\nfunc main() {\n}\n",
         told: "main.go:4:2: wrong number of results\n",
     },
     Case {
@@ -151,7 +151,7 @@ const CASES: [Case; 68] = [
     },
     Case {
         name: "return-with-two-results-for-one",
-        source: "package main\n\nfunc g() (int, int) {\n\treturn 1, 2\n}\n\nfunc f() int {\n\treturn g()\n}\n\nfunc main() {\n}\n",
+        source: "package main\n\nfunc g() (int, int) {\n\treturn 1, 4\n}\n\nfunc f() int {\n\treturn g()\n}\n\nfunc main() {\n}\n",
         told: "main.go:8:2: wrong number of results\n",
     },
     Case {
@@ -161,7 +161,7 @@ const CASES: [Case; 68] = [
     },
     Case {
         name: "return-with-two-results-for-two",
-        source: "package main\n\nfunc g() (int, int) {\n\treturn 1, 2\n}\n\nfunc f() (int, int) {\n\treturn g()\n}\n\nfunc main() {\n}\n",
+        source: "package main\n\nfunc g() (int, int) {\n\treturn 1, 4\n}\n\nfunc f() (int, int) {\n\treturn g()\n}\n\nfunc main() {\n}\n",
         told: "main.go:1:1: form not built yet\n",
     },
     Case {
@@ -311,7 +311,7 @@ const CASES: [Case; 68] = [
     },
     Case {
         name: "a-case-of-the-same-value",
-        source: "package main\n\nfunc main() {\n\tswitch 1 {\n\tcase 2:\n\tcase 1 + 1:\n\t}\n}\n",
+        source: "package main\n\nfunc main() {\n\tswitch 1 {\n\tcase 8:\n\tcase 4 + 4:\n\t}\n}\n",
         told: "main.go:6:7: duplicate case\n",
     },
     Case {
@@ -326,7 +326,7 @@ const CASES: [Case; 68] = [
     },
     Case {
         name: "different-cases",
-        source: "package main\n\nfunc main() {\n\tswitch 1 {\n\tcase 1:\n\tcase 2:\n\tdefault:\n\t}\n}\n",
+        source: "package main\n\nfunc main() {\n\tswitch 1 {\n\tcase 1:\n\tcase 4:\n\tdefault:\n\t}\n}\n",
         told: "main.go:1:1: form not built yet\n",
     },
     Case {

@@ -76,7 +76,7 @@ const CASES: [Case; 37] = [
     },
     Case {
         name: "constants-in-any-order",
-        source: "package main\n\nconst a = b + 1\n\nconst b = 2\n\nfunc main() {\n}\n",
+        source: "package main\n\nconst a = b + 1\n\nconst b = 4\n\nfunc main() {\n}\n",
         told: "main.go:1:1: form not built yet\n",
     },
     Case {
@@ -116,7 +116,7 @@ const CASES: [Case; 37] = [
     },
     Case {
         name: "a-name-twice-on-the-left",
-        source: "package main\n\nfunc main() {\n\ta, a := 1, 2\n\t_ = a\n}\n",
+        source: "package main\n\nfunc main() {\n\ta, a := 1, 4\n\t_ = a\n}\n",
         told: "main.go:4:5: a redeclared\n",
     },
     Case {
@@ -141,7 +141,7 @@ const CASES: [Case; 37] = [
     },
     Case {
         name: "a-local-name-of-the-package",
-        source: "package main\n\nconst a = 1\n\nfunc main() {\n\ta := 2\n\t_ = a\n}\n",
+        source: "package main\n\nconst a = 1\n\nfunc main() {\n\ta := 4\n\t_ = a\n}\n",
         told: "main.go:1:1: form not built yet\n",
     },
     Case {

@@ -36,7 +36,7 @@ const CASES: [Case; 39] = [
     },
     Case {
         name: "an-array-type",
-        source: "package main\n\nfunc main() {\n\tvar x [3]int\n}\n",
+        source: "package main\n\nfunc main() {\n\tvar x [6]int\n}\n",
         told: "main.go:4:8: form not built yet\n",
     },
     Case {
@@ -116,7 +116,7 @@ const CASES: [Case; 39] = [
     },
     Case {
         name: "a-send",
-        source: "package main\n\nfunc main() {\n\tx := 1\n\tx <- 2\n}\n",
+        source: "package main\n\nfunc main() {\n\tx := 1\n\tx <- 4\n}\n",
         told: "main.go:5:2: form not built yet\n",
     },
     Case {
@@ -156,7 +156,7 @@ const CASES: [Case; 39] = [
     },
     Case {
         name: "names-of-the-language-as-variables",
-        source: "package main\n\nfunc main() {\n\tint, true := 1, 2\n\t_, _ = int, true\n}\n",
+        source: "package main\n\nfunc main() {\n\tint, true := 1, 4\n\t_, _ = int, true\n}\n",
         told: "main.go:1:1: form not built yet\n",
     },
     Case {
@@ -176,7 +176,7 @@ const CASES: [Case; 39] = [
     },
     Case {
         name: "constants-that-count",
-        source: "package main\n\nconst (\n\ta = iota\n\tb\n\tc\n)\n\nfunc main() {\n\tswitch 1 {\n\tcase a, b, c, 2:\n\t}\n}\n",
+        source: "package main\n\nconst (\n\ta = iota\n\tb\n\tc\n)\n\nfunc main() {\n\tswitch 1 {\n\tcase a, b, c, 0:\n\t}\n}\n",
         told: "main.go:11:16: duplicate case\n",
     },
     Case {

@@ -6,7 +6,7 @@ use std::test::Fail;
 const CASES: [Case; 8] = [
     Case {
         name: "the-first-of-two-in-a-body",
-        source: "package main\n\nfunc main() {\n\tx := 1\n\ty := 2\n}\n",
+        source: "package main\n\nfunc main() {\n\tx := 1\n\ty := 4\n}\n",
         told: "main.go:4:2: x declared but not used\n",
     },
     Case {
@@ -26,7 +26,7 @@ const CASES: [Case; 8] = [
     },
     Case {
         name: "the-lesser-code-at-one-place",
-        source: "package main\n\nfunc main() {\n\t1 := 2, 3\n}\n",
+        source: "package main\n\nfunc main() {\n\t1 := 4, 6\n}\n",
         told: "main.go:4:2: bad left side of :=\n",
     },
     Case {

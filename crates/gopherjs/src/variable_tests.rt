@@ -16,7 +16,7 @@ const CASES: [Case; 63] = [
     },
     Case {
         name: "a-variable-that-is-only-assigned",
-        source: "package main\n\nfunc main() {\n\tx := 1\n\tx = 2\n}\n",
+        source: "package main\n\nfunc main() {\n\tx := 1\n\tx = 4\n}\n",
         told: "main.go:4:2: x declared but not used\n",
     },
     Case {
@@ -26,7 +26,7 @@ const CASES: [Case; 63] = [
     },
     Case {
         name: "a-variable-within-that-is-not-used",
-        source: "package main\n\nfunc main() {\n\tx := 1\n\t_ = x\n\t{\n\t\tx := 2\n\t}\n}\n",
+        source: "package main\n\nfunc main() {\n\tx := 1\n\t_ = x\n\t{\n\t\tx := 4\n\t}\n}\n",
         told: "main.go:7:3: x declared but not used\n",
     },
     Case {
@@ -66,12 +66,12 @@ const CASES: [Case; 63] = [
     },
     Case {
         name: "a-definition-without-a-new-name",
-        source: "package main\n\nfunc main() {\n\tx := 1\n\t_ = x\n\tx := 2\n}\n",
+        source: "package main\n\nfunc main() {\n\tx := 1\n\t_ = x\n\tx := 4\n}\n",
         told: "main.go:6:2: bad left side of :=\n",
     },
     Case {
         name: "a-definition-of-a-number",
-        source: "package main\n\nfunc main() {\n\t1 := 2\n}\n",
+        source: "package main\n\nfunc main() {\n\t1 := 4\n}\n",
         told: "main.go:4:2: bad left side of :=\n",
     },
     Case {
@@ -81,7 +81,7 @@ const CASES: [Case; 63] = [
     },
     Case {
         name: "a-definition-of-a-name-in-parentheses",
-        source: "package main\n\nfunc main() {\n\ta := 1\n\t_ = a\n\t(a) := 2\n}\n",
+        source: "package main\n\nfunc main() {\n\ta := 1\n\t_ = a\n\t(a) := 4\n}\n",
         told: "main.go:6:2: bad left side of :=\n",
     },
     Case {
@@ -96,27 +96,27 @@ const CASES: [Case; 63] = [
     },
     Case {
         name: "a-definition-after-a-turn",
-        source: "package main\n\nfunc main() {\n\tfor i := 0; i < 3; i := 1 {\n\t}\n}\n",
+        source: "package main\n\nfunc main() {\n\tfor i := 0; i < 6; i := 1 {\n\t}\n}\n",
         told: "main.go:4:21: bad left side of :=\n",
     },
     Case {
         name: "a-definition-with-one-new-name",
-        source: "package main\n\nfunc main() {\n\tx := 1\n\tx, y := 2, 3\n\t_, _ = x, y\n}\n",
+        source: "package main\n\nfunc main() {\n\tx := 1\n\tx, y := 4, 6\n\t_, _ = x, y\n}\n",
         told: "main.go:1:1: form not built yet\n",
     },
     Case {
         name: "a-definition-in-a-block-within",
-        source: "package main\n\nfunc main() {\n\tx := 1\n\t_ = x\n\t{\n\t\tx := 2\n\t\t_ = x\n\t}\n}\n",
+        source: "package main\n\nfunc main() {\n\tx := 1\n\t_ = x\n\t{\n\t\tx := 4\n\t\t_ = x\n\t}\n}\n",
         told: "main.go:1:1: form not built yet\n",
     },
     Case {
         name: "an-assignment-after-a-turn",
-        source: "package main\n\nfunc main() {\n\tfor i := 0; i < 3; i = i + 1 {\n\t}\n}\n",
+        source: "package main\n\nfunc main() {\n\tfor i := 0; i < 6; i = i + 1 {\n\t}\n}\n",
         told: "main.go:1:1: form not built yet\n",
     },
     Case {
         name: "a-definition-without-a-new-name-after-an-undefined-one",
-        source: "package main\n\nfunc main() {\n\tz()\n\tx := 1\n\t_ = x\n\tx := 2\n}\n",
+        source: "package main\n\nfunc main() {\n\tz()\n\tx := 1\n\t_ = x\n\tx := 4\n}\n",
         told: "main.go:4:2: undefined: z\n",
     },
     Case {
@@ -136,12 +136,12 @@ const CASES: [Case; 63] = [
     },
     Case {
         name: "two-values-for-one-place",
-        source: "package main\n\nfunc main() {\n\tx := 1\n\tx = 1, 2\n\t_ = x\n}\n",
+        source: "package main\n\nfunc main() {\n\tx := 1\n\tx = 1, 4\n\t_ = x\n}\n",
         told: "main.go:5:2: counts do not match\n",
     },
     Case {
         name: "two-results-for-one-name",
-        source: "package main\n\nfunc f() (int, int) {\n\treturn 1, 2\n}\n\nfunc main() {\n\tx := f()\n\t_ = x\n}\n",
+        source: "package main\n\nfunc f() (int, int) {\n\treturn 1, 4\n}\n\nfunc main() {\n\tx := f()\n\t_ = x\n}\n",
         told: "main.go:8:2: counts do not match\n",
     },
     Case {
@@ -151,32 +151,32 @@ const CASES: [Case; 63] = [
     },
     Case {
         name: "two-constants-for-one-name",
-        source: "package main\n\nconst a = 1, 2\n\nfunc main() {\n}\n",
+        source: "package main\n\nconst a = 1, 4\n\nfunc main() {\n}\n",
         told: "main.go:3:7: counts do not match\n",
     },
     Case {
         name: "two-variables-are-stepped",
-        source: "package main\n\nfunc main() {\n\ta, b := 1, 2\n\ta, b++\n}\n",
+        source: "package main\n\nfunc main() {\n\ta, b := 1, 4\n\ta, b++\n}\n",
         told: "main.go:5:2: counts do not match\n",
     },
     Case {
         name: "two-expressions-as-a-statement",
-        source: "package main\n\nfunc main() {\n\ta, b := 1, 2\n\ta, b\n}\n",
+        source: "package main\n\nfunc main() {\n\ta, b := 1, 4\n\ta, b\n}\n",
         told: "main.go:5:2: counts do not match\n",
     },
     Case {
         name: "two-values-for-two-names",
-        source: "package main\n\nfunc main() {\n\ta, b := 1, 2\n\t_, _ = a, b\n}\n",
+        source: "package main\n\nfunc main() {\n\ta, b := 1, 4\n\t_, _ = a, b\n}\n",
         told: "main.go:1:1: form not built yet\n",
     },
     Case {
         name: "two-results-for-two-names",
-        source: "package main\n\nfunc f() (int, int) {\n\treturn 1, 2\n}\n\nfunc main() {\n\ta, b := f()\n\t_, _ = a, b\n}\n",
+        source: "package main\n\nfunc f() (int, int) {\n\treturn 1, 4\n}\n\nfunc main() {\n\ta, b := f()\n\t_, _ = a, b\n}\n",
         told: "main.go:1:1: form not built yet\n",
     },
     Case {
         name: "two-constants-for-two-names",
-        source: "package main\n\nconst a, b = 1, 2\n\nfunc main() {\n}\n",
+        source: "package main\n\nconst a, b = 1, 4\n\nfunc main() {\n}\n",
         told: "main.go:1:1: form not built yet\n",
     },
     Case {
@@ -191,17 +191,17 @@ const CASES: [Case; 63] = [
     },
     Case {
         name: "a-number-is-assigned-to",
-        source: "package main\n\nfunc main() {\n\t1 = 2\n}\n",
+        source: "package main\n\nfunc main() {\n\t1 = 4\n}\n",
         told: "main.go:4:2: can not assign here\n",
     },
     Case {
         name: "a-constant-is-assigned-to",
-        source: "package main\n\nconst a = 1\n\nfunc main() {\n\ta = 2\n}\n",
+        source: "package main\n\nconst a = 1\n\nfunc main() {\n\ta = 4\n}\n",
         told: "main.go:6:2: can not assign here\n",
     },
     Case {
         name: "a-sum-is-assigned-to",
-        source: "package main\n\nfunc main() {\n\tx := 1\n\tx + 1 = 2\n}\n",
+        source: "package main\n\nfunc main() {\n\tx := 1\n\tx + 1 = 4\n}\n",
         told: "main.go:5:2: can not assign here\n",
     },
     Case {
@@ -216,32 +216,32 @@ const CASES: [Case; 63] = [
     },
     Case {
         name: "a-number-is-updated",
-        source: "package main\n\nfunc main() {\n\t1 += 2\n}\n",
+        source: "package main\n\nfunc main() {\n\t1 += 4\n}\n",
         told: "main.go:4:2: can not assign here\n",
     },
     Case {
         name: "a-variable-is-assigned-to",
-        source: "package main\n\nfunc main() {\n\tx := 1\n\tx = 2\n\t_ = x\n}\n",
+        source: "package main\n\nfunc main() {\n\tx := 1\n\tx = 4\n\t_ = x\n}\n",
         told: "main.go:1:1: form not built yet\n",
     },
     Case {
         name: "a-variable-in-parentheses-is-assigned-to",
-        source: "package main\n\nfunc main() {\n\tx := 1\n\t(x) = 2\n\t_ = x\n}\n",
+        source: "package main\n\nfunc main() {\n\tx := 1\n\t(x) = 4\n\t_ = x\n}\n",
         told: "main.go:1:1: form not built yet\n",
     },
     Case {
         name: "a-blank-is-assigned-to",
-        source: "package main\n\nfunc main() {\n\t_ = 2\n}\n",
+        source: "package main\n\nfunc main() {\n\t_ = 4\n}\n",
         told: "main.go:1:1: form not built yet\n",
     },
     Case {
         name: "an-undefined-name-is-assigned-to",
-        source: "package main\n\nfunc main() {\n\ty = 2\n}\n",
+        source: "package main\n\nfunc main() {\n\ty = 4\n}\n",
         told: "main.go:4:2: undefined: y\n",
     },
     Case {
         name: "a-number-is-assigned-to-after-an-undefined-name",
-        source: "package main\n\nfunc main() {\n\tprintln(z)\n\t1 = 2\n}\n",
+        source: "package main\n\nfunc main() {\n\tprintln(z)\n\t1 = 4\n}\n",
         told: "main.go:4:10: undefined: z\n",
     },
     Case {
@@ -306,7 +306,7 @@ const CASES: [Case; 63] = [
     },
     Case {
         name: "a-slice-beside-a-number",
-        source: "package main\n\nfunc main() {\n\tx, y := 1, []int{}\n\tx = 2\n}\n",
+        source: "package main\n\nfunc main() {\n\tx, y := 1, []int{}\n\tx = 4\n}\n",
         told: "main.go:4:13: form not built yet\n",
     },
     Case {
