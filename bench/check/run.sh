@@ -8,20 +8,11 @@ program=${1:-"$here/../../crates/gopherjs/out/gopherjs"}
 program=$(cd "$(dirname "$program")" && pwd)/$(basename "$program")
 work=$(mktemp -d)
 trap 'rm -rf "$work"' EXIT
+. "$here/../timed.sh"
 
 mkdir "$work/least"
 printf 'package main\n\nfunc main() {\n}\n' > "$work/least/main.go"
 cd "$work"
-
-# Runs the words after the form three times, and prints what GNU time says in this form.
-timed() {
-    form=$1
-    shift
-    for _ in 1 2 3; do
-        /usr/bin/time -q -o time -f "$form" "$@" > listed 2> told || true
-        cat time
-    done
-}
 
 base=$(timed "%M" "$program" build least | sort -n | tail -1)
 for lines in 25000 50000 100000; do

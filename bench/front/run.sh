@@ -7,21 +7,12 @@ program=${1:-"$here/../../crates/gopherjs/out/gopherjs"}
 program=$(cd "$(dirname "$program")" && pwd)/$(basename "$program")
 work=$(mktemp -d)
 trap 'rm -rf "$work"' EXIT
+. "$here/../timed.sh"
 
 mkdir "$work/app" "$work/least"
 python3 "$here/sources.py" "$work/app"
 printf 'package main\n\nfunc main() {\n}\n' > "$work/least/main.go"
 cd "$work"
-
-# Runs the words after the form three times, and prints what GNU time says in this form.
-timed() {
-    form=$1
-    shift
-    for _ in 1 2 3; do
-        /usr/bin/time -q -o time -f "$form" "$@" > listed 2> told || true
-        cat time
-    done
-}
 
 echo "gofmt -l, processor time:"
 timed "%U s" gofmt -l app
