@@ -1,6 +1,6 @@
 -- What the stages of a build say of the files.
-use Rattle.std.proofs.Common.{◌≡◌, ◌⊎◌, ◌<◌, List, [], ◌∷◌, ℕ, true, length, refl, sym, ap, subst, ◌∙◌, append-nil, inl, inr}
-use Rattle.std.specs.Prelude.{Option, Some, None, IfSome, Result, Ok, Err}
+use Rattle.std.proofs.Common.{◌≡◌, ◌⊎◌, ◌<◌, List, [], ◌∷◌, ℕ, Bool, true, false, length, refl, sym, ap, subst, ◌∙◌, append-nil, inl, inr}
+use Rattle.std.specs.Prelude.{Option, Some, None, IfSome, Result, Ok, Err, is_some, option_map}
 use Rattle.gj_base.specs.Tree.{Tree}
 use Rattle.gj_base.specs.Files.{FilesState, Stores}
 use Rattle.gj_base.specs.declared.files.StoreError.TheVariants.{Failed}
@@ -16,19 +16,22 @@ use Rattle.go_load.specs.declared.packages.LoadRefusal.{LoadRefusal}
 use Rattle.go_load.specs.declared.packages.LoadRefusal.TheVariants as load
 use Rattle.go_core.specs.CoreTree.{CoreProgram}
 use Rattle.go_syntax.specs.Tree as t
-use Rattle.go_packages.specs.Checked.{told, program_of}
+use Rattle.go_packages.specs.Checked.{told}
+use Rattle.go_core.specs.CoreView.{program_view}
+use Rattle.go_core.specs.declared.program.Program.{Program}
+use Rattle.go_type.specs.Table.{places}
+use Rattle.gj_plain.specs.MainView.{main_view}
+use Rattle.gj_plain.specs.declared.plain.Main as code
 use Rattle.go_items.specs.ItemView.{decls_of}
-use Rattle.go_lines.specs.Lines.{PlainIsRight, PlainOnlyPrints, PlainPrints}
+use Rattle.go_lines.specs.Lines.{PlainOnlyPrints}
 use Rattle.js_tree.specs.Script.{ScriptTree}
 use Rattle.js_emit.specs.Faithful.{Faithful}
-use Rattle.js_emit.specs.Emitted.{script_of, body_in, body_of_main}
-use Rattle.js_emit.specs.Lines.{print_lines}
 use Rattle.js_emit.specs.Prints.{only_prints}
 use Rattle.gj_plain.specs.Plain as p
 use Rattle.gj_plain.specs.Plain.{plain_main, main_in}
-use Rattle.go_stmt.specs.Checks.{root_trees, Checks}
+use Rattle.go_stmt.specs.Checks.{root_trees, Checks, IsProgramOf}
 use Rattle.gopherjs.specs.Answers.{out_file, HaveTrees, HoldsProgram, IsToldFault, Builds}
-use Rattle.gopherjs.specs.Builds.{decls_in, main_of, StoresMain, BuildsChecked, IsLeastOf, IsUnbuilt, BuildsPackages, Refuses, RefusesChecked, CanBeTold}
+use Rattle.gopherjs.specs.Builds.{decls_in, main_of, StoresProgram, BuildsChecked, IsHeld, IsLeastOf, IsUnbuilt, BuildsPackages, Refuses, RefusesChecked, CanBeTold}
 use Rattle.gopherjs.specs.declared.build.Refused.{Refused}
 use Rattle.gopherjs.specs.declared.build.Refused.TheVariants as refused
 use Rattle.gopherjs.proofs.PlaceLemmas.{short}
@@ -44,65 +47,72 @@ have_trees packages some are = record {
   all = ap root_trees are.root;
 }
 
--- what holds of all plain packages, and of all programs that only print
-pub record Laws : Type 0 where
-  pub right : PlainIsRight
-  pub prints : PlainPrints
-  pub alone : PlainOnlyPrints
-  pub faithful : (program : CoreProgram) → only_prints program ≡ true → Faithful (script_of (body_of_main program)) program []
-
 -- the declarations of a plain package are those of its one file
 the_main : (trees : List t.File) (main : p.Main) → plain_main trees ≡ Some main → main_in (decls_of trees) ≡ Some main
 the_main [] main h = absurd (cc)
 the_main (file ∷ []) main h = ap main_in (append-nil file.decls) ∙ h
 the_main (file ∷ other ∷ others) main h = absurd (cc)
 
--- the script that prints the texts of a plain `main` is faithful to the program
-prints_them : Laws → (trees : List t.File) (main : p.Main) (s : ScriptTree) → plain_main trees ≡ Some main → s ≡ script_of (print_lines main.texts) → Faithful s (program_of (decls_of trees)) []
-prints_them laws trees main s plain is =
-    let ds = decls_of trees in
-    let found = the_main trees main plain in
-    let prints = laws.prints ds main found in
-    let body : body_of_main (program_of ds) ≡ print_lines main.texts = ap body_in prints.found ∙ prints.lines in
-    subst (λ (script : ScriptTree). Faithful script (program_of ds) []) (ap script_of body ∙ sym is) (laws.faithful (program_of ds) (laws.alone ds main found))
+-- the program of a plain package only prints
+pub prints_alone : PlainOnlyPrints → (packages : Packages) (q : Program) → IsProgramOf (decls_in packages) q → (b : Bool) → b ≡ is_some (main_of packages) → b ≡ true → only_prints (program_view q) ≡ true
+prints_alone law packages q of b asked is_plain = by (main_of packages) refl (sym asked ∙ is_plain)
+  where
+    by : (o : Option p.Main) → main_of packages ≡ o → is_some o ≡ true → only_prints (program_view q) ≡ true
+    by None found some = absurd (cc)
+    by (Some main) found some = ap only_prints of ∙ law (decls_in packages) main (the_main (root_trees (paths_view packages.packages)) main found)
+
+-- a package has a plain root where its view has one
+pub some_viewed : (o : Option code.Main) → is_some o ≡ is_some (option_map main_view o)
+some_viewed None = refl
+some_viewed (Some main) = refl
 
 -- the folder holds the program of its package
-holds : Laws → (tree : Tree) (folder : List ℕ) (packages : Packages) (main : p.Main) → 0 < length packages.files → IsRead (Some tree) folder packages.files → ArePackages packages → main_of packages ≡ Some main
-    → HoldsProgram tree folder (program_of (decls_of (root_trees (paths_view packages.packages))))
-holds laws tree folder packages main some read are plain = record {
+holds : (tree : Tree) (folder : List ℕ) (packages : Packages) (program : CoreProgram) → 0 < length packages.files → IsRead (Some tree) folder packages.files → ArePackages packages → IsHeld packages program → HoldsProgram tree folder program
+holds tree folder packages program some read are held = record {
   entries = packages.files;
   read = read;
   trees = root_trees (paths_view packages.packages);
   have = have_trees packages some are;
-  right = laws.right (decls_of (root_trees (paths_view packages.packages))) main (the_main (root_trees (paths_view packages.packages)) main plain);
-  main = main;
-  plain = plain;
-  is = refl;
+  right = held.right;
+  main = held.main;
+  plain = held.is_plain;
+  types = held.types;
+  is = held.is;
 }
 
 -- a script that is faithful to that program
-compiles : Laws → (o : Option Tree) (folder : List ℕ) (packages : Packages) (main : p.Main) (s : ScriptTree) → 0 < length packages.files → IsRead o folder packages.files → ArePackages packages → main_of packages ≡ Some main
-    → s ≡ script_of (print_lines main.texts) → IfSome o (λ tree. (program : CoreProgram) × HoldsProgram tree folder program × Faithful s program [])
-compiles laws None folder packages main s some read are plain is = tt
-compiles laws (Some tree) folder packages main s some read are plain is =
-    let trees = root_trees (paths_view packages.packages) in
-    (program_of (decls_of trees), holds laws tree folder packages main some read are plain, prints_them laws trees main s plain is)
+compiles : (o : Option Tree) (folder : List ℕ) (packages : Packages) (program : CoreProgram) (s : ScriptTree) → 0 < length packages.files → IsRead o folder packages.files → ArePackages packages → IsHeld packages program → Faithful s program []
+    → IfSome o (λ tree. (program : CoreProgram) × HoldsProgram tree folder program × Faithful s program [])
+compiles None folder packages program s some read are held faithful = tt
+compiles (Some tree) folder packages program s some read are held faithful = (program, holds tree folder packages program some read are held, faithful)
 
--- what comes of packages with a plain root
-pub builds_main : (r : Result (Unit {0}) Refused) (packages : Packages) (main : p.Main) (old new : FilesState) → main_of packages ≡ Some main → StoresMain r main old new → BuildsChecked r packages old new
-builds_main (Ok u) packages main old new found stored = (main, found, stored)
-builds_main (Err (refused.Fault fault entries)) packages main old new found stored = absurd stored
-builds_main (Err refused.ReadFault) packages main old new found stored = absurd stored
-builds_main (Err refused.WriteFault) packages main old new found stored = (main, found, stored)
-builds_main (Err refused.NoMemory) packages main old new found stored = stored
+-- what comes of a program whose root is plain, or isn't
+pub builds_plain : (r : Result (Unit {0}) Refused) (packages : Packages) (program : CoreProgram) (b : Bool) (old new : FilesState) → b ≡ is_some (main_of packages) → b ≡ true → StoresProgram r program old new → BuildsChecked r packages program old new
+builds_plain r packages program b old new asked is_plain stored = by (main_of packages) refl (sym asked ∙ is_plain) r stored
+  where
+    by : (o : Option p.Main) → main_of packages ≡ o → is_some o ≡ true → (r : Result (Unit {0}) Refused) → StoresProgram r program old new → BuildsChecked r packages program old new
+    by None found some r stored = absurd (cc)
+    by (Some main) found some (Ok u) stored = (main, found, stored)
+    by (Some main) found some (Err (refused.Fault fault entries)) stored = absurd stored
+    by (Some main) found some (Err refused.ReadFault) stored = absurd stored
+    by (Some main) found some (Err refused.WriteFault) stored = (main, found, stored)
+    by (Some main) found some (Err refused.NoMemory) stored = stored
+
+pub none_plain : (packages : Packages) (b : Bool) → b ≡ is_some (main_of packages) → b ≡ false → main_of packages ≡ None
+none_plain packages b asked unlike = by (main_of packages) (sym asked ∙ unlike)
+  where
+    by : (o : Option p.Main) → is_some o ≡ false → o ≡ None
+    by None none = refl
+    by (Some main) none = absurd (cc)
 
 -- what comes of packages of which nothing is told
-pub builds_checked : (r : Result (Unit {0}) Refused) (packages : Packages) (old new : FilesState) → told (decls_in packages) ≡ [] → BuildsChecked r packages old new → BuildsPackages r packages old new
-builds_checked (Ok u) packages old new right built = built
-builds_checked (Err (refused.Fault fault entries)) packages old new right (same, files, unlike, is) = (same, files, inr (right, unlike, is))
-builds_checked (Err refused.ReadFault) packages old new right built = built
-builds_checked (Err refused.WriteFault) packages old new right built = built
-builds_checked (Err refused.NoMemory) packages old new right built = built
+pub builds_checked : (r : Result (Unit {0}) Refused) (packages : Packages) (q : Program) (old new : FilesState) → told (decls_in packages) ≡ [] → IsProgramOf (decls_in packages) q → BuildsChecked r packages (program_view q) old new
+    → BuildsPackages r packages old new
+builds_checked (Ok u) packages q old new right of built = (program_view q, record { right = right; main = built.0; is_plain = built.1; types = places q.types; is = of }, built.2)
+builds_checked (Err (refused.Fault fault entries)) packages q old new right of (same, files, unlike, is) = (same, files, inr (right, unlike, is))
+builds_checked (Err refused.ReadFault) packages q old new right of built = built
+builds_checked (Err refused.WriteFault) packages q old new right of built = (program_view q, record { right = right; main = built.0; is_plain = built.1; types = places q.types; is = of }, built.2)
+builds_checked (Err refused.NoMemory) packages q old new right of built = built
 
 -- what comes of packages of which something is told
 pub builds_none : (refusal : Refusal) (r : Refused) (packages : Packages) (s : FilesState) → Checks (Err refusal) (decls_in packages) → RefusesChecked refusal packages.files r → BuildsPackages (Err r) packages s s
@@ -117,20 +127,20 @@ told_of packages entries fault have (inr unbuilt) =
     inr (inr (record { trees = root_trees (paths_view packages.packages); have = have; right = unbuilt.0; unlike = unbuilt.1; is = unbuilt.2 }))
 
 -- what comes of packages
-pub builds : Laws → (r : Result (Unit {0}) Refused) (folder : List ℕ) (packages : Packages) (old new : FilesState) → 0 < length packages.files → IsRead old.tree folder packages.files → ArePackages packages
-    → BuildsPackages r packages old new → Builds r folder old new
-builds laws (Ok u) folder packages old new some read are built =
-    (built.2.1.0, compiles laws old.tree folder packages built.0 built.2.1.0 some read are built.1 built.2.1.2, subst (λ (text : List ℕ). Stores (Ok tt) out_file text old new) built.2.1.1 built.2.2)
-builds laws (Err (refused.Fault fault entries)) folder packages old new some read are (same, files, why) = (
+pub builds : (r : Result (Unit {0}) Refused) (folder : List ℕ) (packages : Packages) (old new : FilesState) → 0 < length packages.files → IsRead old.tree folder packages.files → ArePackages packages → BuildsPackages r packages old new
+    → Builds r folder old new
+builds (Ok u) folder packages old new some read are built =
+    (built.2.1.0, compiles old.tree folder packages built.0 built.2.1.0 some read are built.1 built.2.1.2, subst (λ (text : List ℕ). Stores (Ok tt) out_file text old new) built.2.1.1 built.2.2)
+builds (Err (refused.Fault fault entries)) folder packages old new some read are (same, files, why) = (
   same,
   subst (λ (es : List FileEntry). 0 < length es) (sym files) some,
   subst (λ (es : List FileEntry). IsRead old.tree folder es) (sym files) read,
   told_of packages entries fault (subst (λ (es : List FileEntry). HaveTrees es (root_trees (paths_view packages.packages))) (sym files) (have_trees packages some are)) why,
 )
-builds laws (Err refused.ReadFault) folder packages old new some read are built = absurd built
-builds laws (Err refused.WriteFault) folder packages old new some read are built =
-    (built.2.1.0, compiles laws old.tree folder packages built.0 built.2.1.0 some read are built.1 built.2.1.2, subst (λ (text : List ℕ). Stores (Err Failed) out_file text old new) built.2.1.1 built.2.2)
-builds laws (Err refused.NoMemory) folder packages old new some read are built = built
+builds (Err refused.ReadFault) folder packages old new some read are built = absurd built
+builds (Err refused.WriteFault) folder packages old new some read are built =
+    (built.2.1.0, compiles old.tree folder packages built.0 built.2.1.0 some read are built.1 built.2.1.2, subst (λ (text : List ℕ). Stores (Err Failed) out_file text old new) built.2.1.1 built.2.2)
+builds (Err refused.NoMemory) folder packages old new some read are built = built
 
 -- what comes of a load without packages
 pub not_loaded : (refusal : LoadRefusal) (r : Refused) (folder : List ℕ) (old new : FilesState) → Refuses refusal r → Loads (Err refusal) folder old new → Builds (Err r) folder old new

@@ -11,6 +11,7 @@ use Rattle.go_load.specs.Faults.{fault_in, stage_faults}
 use Rattle.go_load.specs.Load.{IsFaultOf, FailsToRead}
 use Rattle.go_load.specs.declared.sources.FileEntry.{FileEntry}
 use Rattle.go_core.specs.CoreTree.{CoreProgram}
+use Rattle.go_type.specs.Tree.{Ty}
 use Rattle.go_typing.specs.Answer.{Flaw}
 use Rattle.go_packages.specs.Checked.{told, fault_of, program_of}
 use Rattle.go_stmt.specs.Checks.{fault_with}
@@ -44,7 +45,9 @@ pub record HoldsProgram (tree : Tree) (folder : List ℕ) (program : CoreProgram
   pub right : told (decls_of trees) ≡ []
   pub main : Main
   pub plain : plain_main trees ≡ Some main
-  pub is : program ≡ program_of (decls_of trees)
+  -- of some table: the definition's program has none
+  pub types : List Ty
+  pub is : program ≡ record (program_of (decls_of trees)) { types = types }
 
 -- F0, at the start of the root's first file
 abbrev pub unbuilt_fault : Fault

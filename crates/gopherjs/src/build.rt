@@ -1,17 +1,20 @@
 //! The command `build`: from a folder to a stored script.
 
-ghost use Rattle.std.specs.Prelude.{◌≡◌, IfOk};
-ghost use Rattle.gj_plain.specs.MainView.{main_view};
+ghost use Rattle.std.specs.Prelude.{◌≡◌, IfOk, is_some, true};
+ghost use Rattle.go_core.specs.CoreView.{program_view};
+ghost use Rattle.js_emit.specs.Prints.{only_prints};
+ghost use Rattle.go_stmt.specs.Checks.{IsProgramOf};
 ghost use Rattle.gopherjs.specs.Answers.{Builds, unbuilt_fault};
-ghost use Rattle.gopherjs.specs.Builds.{IsCompiled, StoresMain, BuildsChecked, BuildsPackages, Refuses, RefusesChecked};
+ghost use Rattle.gopherjs.specs.Builds.{decls_in, main_of, IsCompiled, StoresProgram, BuildsChecked, BuildsPackages, Refuses, RefusesChecked};
 
 use gj_base::{Fault, Files, NoMemory, Place, Refusal, StoreError, Text};
-use gj_plain::plain::{Main, plain_main};
+use gj_plain::plain::plain_main;
+use go_core::program::Program;
+use go_core::tree::{FuncSet, Order};
 use go_lines::laws::plain;
 use go_load::{LoadRefusal, Packages, Sources, load};
 use go_stmt::{check, gone_program, root_files};
-use js_emit::laws::prints;
-use js_emit::script_of_lines;
+use js_emit::emit;
 use js_tree::{Style, printed};
 use std::alloc::Global;
 
@@ -49,8 +52,6 @@ impl From<NoMemory> for Refused {
 pub fn build<F: Files>(alloc: Global, folder: &str, files: &mut F) -> Result<(), Refused>
     ensures { Builds result folder.now (F.state files.old) (F.state files.new) }
 {
-    plain();
-    prints();
     match load(alloc, files, folder, SOURCE_FOLDER) {
         Ok(packages) => build_packages(alloc, packages, files),
         Err(refusal) => Err(unloaded(refusal)),
@@ -73,10 +74,7 @@ fn build_packages<F: Files>(alloc: Global, packages: Packages, files: &mut F) ->
     ensures { BuildsPackages result packages (F.state files.old) (F.state files.new) }
 {
     match check(alloc, &packages) {
-        Ok(program) => {
-            gone_program(program);
-            build_checked(alloc, packages, files)
-        }
+        Ok(program) => build_checked(alloc, packages, program, files),
         Err(refusal) => Err(unchecked(refusal, packages.into_files())),
     }
 }
@@ -91,16 +89,52 @@ fn unchecked(refusal: Refusal, sources: Sources) -> Refused
     }
 }
 
-/// Compiles packages of which nothing is told, and stores their script, where the root is plain.
-fn build_checked<F: Files>(alloc: Global, packages: Packages, files: &mut F) -> Result<(), Refused>
-    ensures { BuildsChecked result packages (F.state files.old) (F.state files.new) }
+/// Compiles the program of packages of which nothing is told, and stores its script, where the root is
+/// plain.
+fn build_checked<F: Files>(
+    alloc: Global,
+    packages: Packages,
+    program: Program,
+    files: &mut F,
+) -> Result<(), Refused>
+    requires { IsProgramOf (decls_in packages) program }
+    ensures { BuildsChecked result packages (program_view program) (F.state files.old) (F.state files.new) }
 {
-    let found = plain_main(alloc, root_files(&packages.packages));
-    let sources = packages.into_files();
-    match found? {
-        Some(main) => store_program(alloc, main, files),
-        None => Err(Refused::Fault(unbuilt(alloc), sources)),
+    plain();
+    match is_plain(alloc, &packages) {
+        Ok(is_plain) => build_plain(alloc, packages, program, is_plain, files),
+        Err(_) => {
+            gone_program(program);
+            Err(Refused::NoMemory)
+        }
     }
+}
+
+/// Whether the root is plain.
+fn is_plain(alloc: Global, packages: &Packages) -> Result<bool, NoMemory>
+    ensures { IfOk result (λ b. b ≡ is_some (main_of packages.now)) }
+{
+    let main = plain_main(alloc, root_files(&packages.packages))?;
+    Ok(main.is_some())
+}
+
+/// The same, where it was asked whether the root is plain.
+fn build_plain<F: Files>(
+    alloc: Global,
+    packages: Packages,
+    program: Program,
+    is_plain: bool,
+    files: &mut F,
+) -> Result<(), Refused>
+    requires asked { is_plain ≡ is_some (main_of packages) }
+    requires prints { is_plain ≡ true → only_prints (program_view program) ≡ true }
+    ensures { BuildsChecked result packages (program_view program) (F.state files.old) (F.state files.new) }
+{
+    if is_plain {
+        return store_program(alloc, program, files);
+    }
+    gone_program(program);
+    Err(Refused::Fault(unbuilt(alloc), packages.into_files()))
 }
 
 /// The fault of a form that isn't built yet, at the start of the root's first file.
@@ -114,11 +148,14 @@ fn unbuilt(alloc: Global) -> Fault
     }
 }
 
-/// Compiles this `main`, and stores its script.
-fn store_program<F: Files>(alloc: Global, main: Main, files: &mut F) -> Result<(), Refused>
-    ensures { StoresMain result (main_view main) (F.state files.old) (F.state files.new) }
+/// Compiles this program, and stores its script.
+fn store_program<F: Files>(alloc: Global, program: Program, files: &mut F) -> Result<(), Refused>
+    requires { only_prints (program_view program) ≡ true }
+    ensures { StoresProgram result (program_view program) (F.state files.old) (F.state files.new) }
 {
-    let script = compile(alloc, main)?;
+    let compiled = compile(alloc, &program);
+    gone_program(program);
+    let script = compiled?;
     match files.store(OUT_FILE, script.as_bytes()) {
         Ok(()) => Ok(()),
         Err(StoreError::Failed) => Err(Refused::WriteFault),
@@ -126,10 +163,11 @@ fn store_program<F: Files>(alloc: Global, main: Main, files: &mut F) -> Result<(
     }
 }
 
-/// The text of the script that prints the texts of this `main`.
-fn compile(alloc: Global, main: Main) -> Result<Text, NoMemory>
-    ensures { IfOk result (λ text. IsCompiled (main_view main) text) }
+/// The text of the script of a program that only prints.
+fn compile(alloc: Global, program: &Program) -> Result<Text, NoMemory>
+    requires { only_prints (program_view program.now) ≡ true }
+    ensures { IfOk result (λ text. IsCompiled (program_view program.now) text) }
 {
-    let script = script_of_lines(alloc, main.texts.as_slice())?;
+    let script = emit(alloc, program, &Order::new(alloc), &FuncSet::new(alloc))?;
     printed(alloc, &script, Style::Plain)
 }

@@ -6,7 +6,7 @@ use Rattle.gopherjs.proofs.build.build.Goals as goal
 
 pub returns-in-Ok : goal.returns-in-Ok
 returns-in-Ok g c =
-    builds (record { right = c.plain.ensures.right; prints = c.plain.ensures.prints; alone = c.plain.ensures.alone; faithful = c.prints.ensures.faithful }) c.build_packages.result c.args.folder.now c.in-Ok.packages (g.F.Files.state c.args.files.now) (g.F.Files.state c.build_packages.new.files) c.in-Ok.ensures.1 c.in-Ok.ensures.2 c.in-Ok.ensures.3
+    builds c.build_packages.result c.args.folder.now c.in-Ok.packages (g.F.Files.state c.args.files.now) (g.F.Files.state c.build_packages.new.files) c.in-Ok.ensures.1 c.in-Ok.ensures.2 c.in-Ok.ensures.3
     (subst (λ (before : FilesState). BuildsPackages c.build_packages.result c.in-Ok.packages before (g.F.Files.state c.build_packages.new.files)) c.in-Ok.ensures.0 c.build_packages.ensures)
 
 pub returns-in-Err : goal.returns-in-Err

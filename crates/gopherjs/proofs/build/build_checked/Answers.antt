@@ -1,12 +1,8 @@
-use Rattle.std.proofs.Common.{sym, ap, ◌∙◌}
-use Rattle.std.specs.Prelude.{Option, option_map}
-use Rattle.gj_plain.specs.Plain.{plain_main}
-use Rattle.gj_plain.specs.MainView.{main_view}
-use Rattle.gj_plain.specs.declared.plain.Main.{Main}
-use Rattle.gopherjs.proofs.BuildLemmas.{builds_main}
+use Rattle.gopherjs.proofs.BuildLemmas.{prints_alone}
 use Rattle.gopherjs.proofs.build.build_checked.Goals as goal
 
-pub returns-in-Some : goal.returns-in-Some
-returns-in-Some g c =
-    builds_main c.store_program.result c.args.packages (main_view c.in-Some.main) (g.F.Files.state c.args.files.now) (g.F.Files.state c.store_program.new.files)
-    (ap plain_main (sym c.root_files.ensures.trees) ∙ sym c.in_ok-main.ensures ∙ ap (λ (found : Option Main). option_map main_view found) c.in-Some.is) c.store_program.ensures
+pub build_plain-requires : goal.build_plain-requires
+build_plain-requires g c = record {
+  asked = c.in-Ok.ensures;
+  prints = λ asked. prints_alone c.plain.ensures.alone c.args.packages c.args.program c.requires c.in-Ok.is_plain c.in-Ok.ensures asked;
+}
