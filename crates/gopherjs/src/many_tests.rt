@@ -1,4 +1,4 @@
-//! Programs with many clauses, at the limit and past it.
+//! Programs with many clauses and many functions, at the limit and past it.
 
 use crate::check_tests::check_told;
 use gj_base::{Text, TreeFiles};
@@ -49,5 +49,36 @@ fn clauses_of_a_switch(rt: HostRuntime) -> Result<(), Fail> {
         "a-clause-too-many-with-a-fault",
         other,
     )?;
+    Ok(())
+}
+
+/// `main` at line 3, so many functions more from line 5 on, one a line, and then this.
+fn functions(alloc: Global, more: u32, after: &str) -> Result<TreeFiles, Fail> {
+    let before = "package main\n\nfunc main() {\n}\n";
+    many(alloc, before, "func _() {}\n", more, after)
+}
+
+/// There are at most 65535 functions, and two of them are the program's own: beside `main` and these two
+/// 65532 may stand.
+#[test]
+fn functions_with_the_own_two(rt: HostRuntime) -> Result<(), Fail> {
+    let files = functions(rt.alloc(), 65532, "")?;
+    check_told(&rt, rt.alloc(), files, "all-functions", UNBUILT)?;
+    let past = "main.go:1:1: too many functions\n";
+    let files = functions(rt.alloc(), 65533, "")?;
+    check_told(&rt, rt.alloc(), files, "an-own-function-too-many", past)?;
+    Ok(())
+}
+
+/// The two count where nothing else is told. `main` is the first function, so that the 65536th is the last
+/// of 65535 more, at line 4 + 65535; what stands after the last of 65533 is at line 4 + 65533 + 1.
+#[test]
+fn functions_of_the_text(rt: HostRuntime) -> Result<(), Fail> {
+    let other = "main.go:65538:11: undefined: z\n";
+    let files = functions(rt.alloc(), 65533, "const a = z\n")?;
+    check_told(&rt, rt.alloc(), files, "the-own-two-beside-a-fault", other)?;
+    let past = "main.go:65539:1: too many functions\n";
+    let files = functions(rt.alloc(), 65535, "const a = z\n")?;
+    check_told(&rt, rt.alloc(), files, "a-function-too-many", past)?;
     Ok(())
 }
