@@ -1,5 +1,5 @@
 -- What is stored and told of left sides and values, one after the other.
-use Rattle.std.proofs.Common.{◌≡◌, ◌∙◌, refl, sym, ap, List, [], ◌∷◌, ◌++◌, append_assoc, map, Bool}
+use Rattle.std.proofs.Common.{◌≡◌, ◌∙◌, refl, sym, ap, List, [], ◌∷◌, ◌++◌, append_assoc, map, Bool, ◌&&◌}
 use Rattle.std.proofs.lemmas.List.{append-nil, map-append}
 use Rattle.gj_base.specs.declared.place.Place.{Place}
 use Rattle.go_type.specs.Tree.{Ty}
@@ -20,7 +20,7 @@ use Rattle.go_typed.specs.Raw.{Raw}
 use Rattle.go_valued.specs.Settled.{all_known, all_told}
 use Rattle.go_valued.specs.Outcome.{Adds}
 use Rattle.go_assign.specs.LeftView.{fitted}
-use Rattle.go_assign.specs.Assigning.{paired, pair_targets, pair_values, pair_flaws, Stores, all_flaws, each_gives, not_as_many}
+use Rattle.go_assign.specs.Assigning.{paired, pair_targets, pair_values, pair_flaws, Stores, all_flaws, all_left, each_gives, not_as_many}
 
 pub target_more : (ts : List Ty) (olds news : List target.Target) (g : target.Target) (c : core.Target) → news ≡ olds ++ g ∷ [] → target_view ts g ≡ c → map (target_view ts) news ≡ map (target_view ts) olds ++ c ∷ []
 target_more ts olds news g c p q =
@@ -106,9 +106,10 @@ lefts_step ls ls1 l before after all p q h = some_more before after (left_flaws 
 pub lefts_end : (ls : List Left) (now all : List Flaw) → ls ≡ [] → now ++ all_flaws ls ≡ all → now ≡ all
 lefts_end ls now all p h = sym (append-nil now) ∙ sym (ap (λ (x : List Left). now ++ all_flaws x) p) ∙ h
 
-pub miscount_told : (at : Place) (ls : List Left) (rs : List Raw) (before after mid parts : List Flaw) (none : List code.Flaw) (known : Bool) → none ≡ [] → known ≡ all_known rs → mid ≡ map flaw_view none ++ all_flaws ls → parts ≡ mid ++ all_told rs
-    → after ≡ before ++ where_typed known parts (flaw at 84 ∷ []) → after ≡ before ++ (not_as_many at ls rs).flaws
-miscount_told at ls rs before after mid parts none known z k m p h =
-    h ∙ ap (λ (b : Bool). before ++ where_typed b parts (flaw at 84 ∷ [])) k
-    ∙ ap (λ (fs : List Flaw). before ++ where_typed (all_known rs) fs (flaw at 84 ∷ []))
+pub miscount_told : (at : Place) (ls : List Left) (rs : List Raw) (before after mid parts : List Flaw) (none : List code.Flaw) (left known : Bool) → none ≡ [] → left ≡ all_left ls → known ≡ all_known rs → mid ≡ map flaw_view none ++ all_flaws ls → parts ≡ mid ++ all_told rs
+    → after ≡ before ++ where_typed (left && known) parts (flaw at 84 ∷ []) → after ≡ before ++ (not_as_many at ls rs).flaws
+miscount_told at ls rs before after mid parts none left known z l k m p h =
+    h ∙ ap (λ (b : Bool). before ++ where_typed (b && known) parts (flaw at 84 ∷ [])) l
+    ∙ ap (λ (b : Bool). before ++ where_typed (all_left ls && b) parts (flaw at 84 ∷ [])) k
+    ∙ ap (λ (fs : List Flaw). before ++ where_typed (all_left ls && all_known rs) fs (flaw at 84 ∷ []))
     (p ∙ ap (λ (fs : List Flaw). fs ++ all_told rs) (m ∙ ap (λ (fs : List code.Flaw). map flaw_view fs ++ all_flaws ls) z))

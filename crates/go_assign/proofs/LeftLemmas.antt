@@ -1,5 +1,5 @@
 -- Left sides by what a name stands for, and in a list where the last one is held first.
-use Rattle.std.proofs.Common.{arith, ◌≡◌, ◌<◌, ◌≤◌, ◌+◌, ◌-◌, ℕ, ◌∙◌, refl, sym, ap, subst, suc, List, [], ◌∷◌, ◌++◌, length, map, drop, get_or}
+use Rattle.std.proofs.Common.{arith, ◌≡◌, ◌<◌, ◌≤◌, ◌+◌, ◌-◌, ℕ, ◌∙◌, refl, sym, ap, subst, zero, suc, List, [], ◌∷◌, ◌++◌, Bool, true, false, ◌&&◌, length, map, drop, get_or}
 use Rattle.std.specs.Prelude.{Option, Some, None, MatchOption, option_to_list}
 use Rattle.std.proofs.Math.Seq.{drop-cons}
 use Rattle.go_syntax.specs.Tree as t
@@ -18,7 +18,7 @@ use Rattle.go_typing.specs.Env.{Bind, Decl, variable, global, constant, type_nam
 use Rattle.go_scopes.specs.declared.env.Env.{Env}
 use Rattle.go_scopes.specs.EnvView.{table_of}
 use Rattle.go_statements.specs.Walk.{Walk}
-use Rattle.go_statements.specs.Assign.{Left, left_place, left_declared, left_of}
+use Rattle.go_statements.specs.Assign.{Left, left_place, left_declared, left_of, is_left}
 use Rattle.go_typed.specs.Raw.{Grows}
 use Rattle.go_walk.specs.WalkView.{walk_outside, Keeps}
 use Rattle.go_effects.proofs.WalkLemmas.{names_grown, scopes_grown}
@@ -26,6 +26,7 @@ use Rattle.go_callee.specs.Words.{types_of, names_of, scopes_of}
 use Rattle.go_assign.specs.declared.left.Left as code
 use Rattle.go_assign.specs.declared.left.Left.TheVariants as left
 use Rattle.go_assign.specs.LeftView.{left_view, lefts_after, lefts_of, LeftBelow, spot_of}
+use Rattle.go_assign.specs.Assigning.{all_left}
 use Rattle.std.specs.List.{AllByRecursion}
 
 abbrev or_this : Left → Option Left → Left
@@ -119,6 +120,48 @@ next_at : {X : Type 0} (xs : List X) (i : ℕ) (x : X) → i < length xs → x �
 next_at {X} xs i x h e =
     let one : suc i ≡ i + 1 = omega arith in
     drop-cons xs i x h ∙ ap (λ (y : X). y ∷ drop (suc i) xs) (sym e) ∙ ap (λ (n : ℕ). x ∷ drop n xs) one
+
+past : {X : Type 0} (xs : List X) (i : ℕ) → length xs ≤ i → drop i xs ≡ []
+past [] zero h = refl
+past [] (suc i) h = refl
+past (x ∷ xs) zero h = absurd (omega arith)
+past (x ∷ xs) (suc i) h = past xs i (omega arith)
+
+-- ---- whether all can be assigned
+
+regrouped : (k a b : Bool) → (k && (a && b)) ≡ ((k && (a && true)) && b)
+regrouped true true b = refl
+regrouped true false b = refl
+regrouped false a b = refl
+
+left_after : (ts : List Ty) (ls : List code.Left) (after : List Left) → all_left (lefts_after ts ls after) ≡ (all_left (lefts_after ts ls []) && all_left after)
+left_after ts [] after = refl
+left_after ts (l ∷ ls) after =
+    left_after ts ls (left_view ts l ∷ after) ∙ regrouped (all_left (lefts_after ts ls [])) (is_left (left_view ts l)) (all_left after)
+    ∙ ap (λ (b : Bool). b && all_left after) (sym (left_after ts ls (left_view ts l ∷ [])))
+
+and_true : (k b : Bool) → true ≡ b → (k && (b && true)) ≡ k
+and_true true true h = refl
+and_true false b h = refl
+and_true true false h = absurd (cc)
+
+and_false : (k b : Bool) → false ≡ b → (k && (b && true)) ≡ false
+and_false true false h = refl
+and_false false b h = refl
+and_false true true h = absurd (cc)
+
+pub left_step : (ts : List Ty) (xs : List code.Left) (i : ℕ) (l : code.Left) → i < length xs → l ≡ get_or xs i l → true ≡ is_left (left_view ts l) → all_left (lefts_after ts (drop i xs) []) ≡ all_left (lefts_after ts (drop (i + 1) xs) [])
+left_step ts xs i l h e k =
+    ap (λ (x : List code.Left). all_left (lefts_after ts x [])) (next_at xs i l h e) ∙ left_after ts (drop (i + 1) xs) (left_view ts l ∷ [])
+    ∙ and_true (all_left (lefts_after ts (drop (i + 1) xs) [])) (is_left (left_view ts l)) k
+
+pub left_stop : (ts : List Ty) (xs : List code.Left) (i : ℕ) (l : code.Left) → i < length xs → l ≡ get_or xs i l → false ≡ is_left (left_view ts l) → all_left (lefts_after ts (drop i xs) []) ≡ false
+left_stop ts xs i l h e k =
+    ap (λ (x : List code.Left). all_left (lefts_after ts x [])) (next_at xs i l h e) ∙ left_after ts (drop (i + 1) xs) (left_view ts l ∷ [])
+    ∙ and_false (all_left (lefts_after ts (drop (i + 1) xs) [])) (is_left (left_view ts l)) k
+
+pub left_end : (ts : List Ty) (xs : List code.Left) (i : ℕ) → length xs ≤ i → all_left (lefts_after ts (drop i xs) []) ≡ true
+left_end ts xs i h = ap (λ (x : List code.Left). all_left (lefts_after ts x [])) (past xs i h)
 
 abbrev outside : List NamedTy → List (List Bind) → Walk
 outside ns ss = record { names = ns; scopes = ss; next = 0; next_label = 0; vars = []; declared = []; used = [] }

@@ -16,13 +16,13 @@ use Rattle.go_typing.specs.Answer.{Flaw, flaw}
 use Rattle.go_typing.specs.Typing.{place_of}
 use Rattle.go_statements.specs.Walk.{Walk, Did}
 use Rattle.go_statements.specs.Expressions.{Valued, answer_in, several_types, core_of}
-use Rattle.go_statements.specs.Assign.{Left, left_blank, left_place, left_wrong, left_flaws, left_declared, left_of, value_for, target_of, takes, Assigned, one_more, assigned_each, count_of, all_take, same_number, lefts_flaws, targets_of, all_typed, where_typed, miscounted, assign_by, assign_did}
+use Rattle.go_statements.specs.Assign.{Left, left_blank, left_place, left_wrong, left_flaws, left_declared, left_of, is_left, value_for, target_of, takes, Assigned, one_more, assigned_each, count_of, all_take, same_number, lefts_typed, lefts_flaws, targets_of, all_typed, where_typed, miscounted, assign_by, assign_did}
 use Rattle.go_typed.specs.Raw.{raw_of, raws_of}
-use Rattle.go_valued.specs.Settled.{all_told}
+use Rattle.go_valued.specs.Settled.{all_known, all_told}
 use Rattle.go_effects.proofs.RawLemmas.{typed_all, told_all}
 use Rattle.go_effects.proofs.OutcomeLemmas.{made}
 use Rattle.go_assign.specs.LeftView.{lefts_of, fitted}
-use Rattle.go_assign.specs.Assigning.{paired, pair_targets, pair_values, pair_flaws, all_flaws, all_targets, each_takes, as_many, as_many_values, Gives, not_as_many, each_gives, call_gives, assigned_by, assigned}
+use Rattle.go_assign.specs.Assigning.{paired, pair_targets, pair_values, pair_flaws, all_flaws, all_left, all_targets, each_takes, as_many, as_many_values, Gives, not_as_many, each_gives, call_gives, assigned_by, assigned}
 
 -- ---- of the walk only names and scopes are asked
 
@@ -96,6 +96,10 @@ pub flaws_all : (w : Walk) (xs : List Expr) → all_flaws (lefts_of w xs) ≡ le
 flaws_all w [] = refl
 flaws_all w (x ∷ xs) = ap (λ (fs : List Flaw). left_flaws (left_of w x) ++ fs) (flaws_all w xs)
 
+pub left_all : (w : Walk) (xs : List Expr) → all_left (lefts_of w xs) ≡ lefts_typed w (view.exprs_of xs)
+left_all w [] = refl
+left_all w (x ∷ xs) = ap (λ (b : Bool). is_left (left_of w x) && b) (left_all w xs)
+
 pub targets_all : (w : Walk) (xs : List Expr) → all_targets (lefts_of w xs) ≡ targets_of w (view.exprs_of xs)
 targets_all w [] = refl
 targets_all w (x ∷ xs) = ap (λ (gs : List Target). target_of (left_of w x) ∷ gs) (targets_all w xs)
@@ -133,9 +137,11 @@ if_did false true g h d e u p q r = absurd (cc)
 
 counted : (at : Place) (w : Walk) (xs ys : List Expr) (u : Walk) → gives_did (not_as_many at (lefts_of w xs) (raws_of w.names w.scopes ys)) u ≡ miscounted at w (view.exprs_of xs) (view.exprs_of ys) u
 counted at w xs ys u =
-    ap (λ (b : Bool). made [] (where_typed b (all_flaws (lefts_of w xs) ++ all_told (raws_of w.names w.scopes ys)) (flaw at 84 ∷ [])) u) (sym (typed_all w ys))
-    ∙ ap (λ (fs : List Flaw). made [] (where_typed (all_typed w (view.exprs_of ys)) (fs ++ all_told (raws_of w.names w.scopes ys)) (flaw at 84 ∷ [])) u) (flaws_all w xs)
-    ∙ ap (λ (fs : List Flaw). made [] (where_typed (all_typed w (view.exprs_of ys)) (lefts_flaws w (view.exprs_of xs) ++ fs) (flaw at 84 ∷ [])) u) (sym (told_all w ys))
+    let known = lefts_typed w (view.exprs_of xs) && all_typed w (view.exprs_of ys) in
+    ap (λ (b : Bool). made [] (where_typed (b && all_known (raws_of w.names w.scopes ys)) (all_flaws (lefts_of w xs) ++ all_told (raws_of w.names w.scopes ys)) (flaw at 84 ∷ [])) u) (left_all w xs)
+    ∙ ap (λ (b : Bool). made [] (where_typed (lefts_typed w (view.exprs_of xs) && b) (all_flaws (lefts_of w xs) ++ all_told (raws_of w.names w.scopes ys)) (flaw at 84 ∷ [])) u) (sym (typed_all w ys))
+    ∙ ap (λ (fs : List Flaw). made [] (where_typed known (fs ++ all_told (raws_of w.names w.scopes ys)) (flaw at 84 ∷ [])) u) (flaws_all w xs)
+    ∙ ap (λ (fs : List Flaw). made [] (where_typed known (lefts_flaws w (view.exprs_of xs) ++ fs) (flaw at 84 ∷ [])) u) (sym (told_all w ys))
 
 each_did : (w : Walk) (xs ys : List Expr) (u : Walk)
     → gives_did (each_gives (paired w.names (lefts_of w xs) (raws_of w.names w.scopes ys))) u

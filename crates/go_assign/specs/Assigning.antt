@@ -14,7 +14,7 @@ use Rattle.go_answers.specs.AnswerView.{flaw_view}
 use Rattle.go_answers.specs.declared.answer.Flaw as code
 use Rattle.go_walk.specs.WalkView.{Keeps}
 use Rattle.go_statements.specs.Expressions.{Valued, core_of}
-use Rattle.go_statements.specs.Assign.{Left, left_flaws, target_of, takes, where_typed}
+use Rattle.go_statements.specs.Assign.{Left, left_flaws, is_left, target_of, takes, where_typed}
 use Rattle.go_typed.specs.Raw.{Raw}
 use Rattle.go_valued.specs.Settled.{all_known, all_told, several_in}
 use Rattle.go_assign.specs.LeftView.{fitted}
@@ -72,9 +72,13 @@ pub record Gives : Type 0 where
   pub flaws : List Flaw
   pub core : List core.Stmt
 
+abbrev pub all_left : List Left → Bool
+all_left [] = true
+all_left (l ∷ ls) = is_left l && all_left ls
+
 -- the counts differ (84)
 abbrev pub not_as_many : Place → List Left → List Raw → Gives
-not_as_many at ls rs = record { flaws = where_typed (all_known rs) (all_flaws ls ++ all_told rs) (flaw at 84 ∷ []); core = [] }
+not_as_many at ls rs = record { flaws = where_typed (all_left ls && all_known rs) (all_flaws ls ++ all_told rs) (flaw at 84 ∷ []); core = [] }
 
 abbrev pub store_gives : List Flaw → List Target → core.Exprs → Gives
 store_gives fs gs es = record { flaws = fs; core = core.store gs es ∷ [] }

@@ -18,7 +18,7 @@ ghost use Rattle.go_valued.specs.Outcome.{Adds};
 ghost use Rattle.go_assign.specs.LeftView.{left_view, lefts_view, LeftBelow, LeftsBelow, fitted};
 ghost use Rattle.go_assign.specs.Assigning.{paired, Stores, all_flaws, each_gives, not_as_many};
 
-use crate::left::{Left, Lefts, fitted, next_left, target_of};
+use crate::left::{Left, Lefts, all_left, fitted, next_left, target_of};
 use gj_base::{NoMemory, Place};
 use go_answers::answer::Flaw;
 use go_core::node::CoreExpr;
@@ -213,11 +213,12 @@ pub fn miscounted(
     requires lefts { LeftsBelow (size (table_of env.now)) lefts }
     ensures told { OnOk result (map flaw_view flaws.new.items ≡ map flaw_view flaws.old.items ++ (not_as_many at (lefts_view (types_of env.now) lefts) (raws_view (types_of env.now) raws)).flaws) }
 {
+    let left = all_left(&lefts);
     let known = all_known(&raws);
     let mut parts = Vec::new(alloc);
     match lefts_told(env, lefts, &mut parts) {
         Ok(()) => match move_all(&mut parts, raws) {
-            Ok(()) => match told_where_typed(flaws, known, parts, at, 84) {
+            Ok(()) => match told_where_typed(flaws, left && known, parts, at, 84) {
                 Ok(()) => Ok(()),
                 Err(error) => Err(error),
             },

@@ -22,6 +22,7 @@ ghost use Rattle.go_effects.specs.Moves.{Stays};
 ghost use Rattle.go_answers.specs.AnswerView.{flaw_view};
 ghost use Rattle.go_answers.specs.Below.{AnswerBelow};
 ghost use Rattle.go_assign.specs.LeftView.{left_view, lefts_view, lefts_of, LeftBelow, LeftsBelow, spot_of, refused_left, fitted};
+ghost use Rattle.go_assign.specs.Assigning.{all_left};
 
 use crate::bare::{bare, bare_name};
 use gj_base::{NoMemory, Place, Text};
@@ -222,6 +223,31 @@ pub fn next_left(env: &Env, lefts: &mut Lefts) -> Option<Left>
 {
     let _ = env;
     lefts.items.pop()
+}
+
+/// Whether it can be assigned.
+pub fn is_left(left: &Left) -> bool
+    ensures value { (ts : List Ty) → result ≡ go.is_left (left_view ts left.now) }
+{
+    match left {
+        Left::Blank => true,
+        Left::Local(_, _) => true,
+        Left::Global(_, _) => true,
+        Left::Wrong(_) => false,
+    }
+}
+
+/// Whether all can be assigned.
+#[tactic(auto, using(crate::proofs::LeftLemmas::left_step, crate::proofs::LeftLemmas::left_stop, crate::proofs::LeftLemmas::left_end))]
+pub fn all_left(lefts: &Lefts) -> bool
+    ensures value { (ts : List Ty) → result ≡ all_left (lefts_view ts lefts.now) }
+{
+    for left in &lefts.items {
+        if !is_left(left) {
+            return false;
+        }
+    }
+    true
 }
 
 /// What is assigned, in the core.

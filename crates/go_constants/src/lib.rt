@@ -6,8 +6,10 @@
 #![tactic(auto)]
 
 pub mod constant;
+pub mod count;
 pub mod told;
 pub mod types;
 
 pub use constant::{Constant, constant_value};
+pub use count::count_told;
 pub use types::{FoundType, Spec, SpecType, spec_type, type_found, type_of_spec};

@@ -13,9 +13,13 @@ use Rattle.go_scopes.specs.declared.env.Env.{Env}
 use Rattle.go_statements.specs.Walk.{Walk}
 use Rattle.go_statements.specs.Expressions.{Valued, answer_in, flaws_in}
 use Rattle.go_statements.specs.Assign.{where_typed, all_typed, all_in_flaws}
-use Rattle.go_statements.specs.Declare.{SpecType, constant_value, spec_type, spec_type_flaws, names_count, spec_place, counting}
+use Rattle.go_statements.specs.Declare.{SpecType, constant_value, spec_type, spec_type_flaws, spec_known, names_count, spec_place, count_told, counting}
 use Rattle.go_packages.specs.Told.{each_told, spec_told, specs_told}
 use Rattle.go_items.specs.ItemView.{names_in}
+use Rattle.go_type.specs.Tree.{Ty}
+use Rattle.go_constants.specs.SpecView.{spec_view}
+use Rattle.go_constants.specs.declared.types.SpecType as kinds
+use Rattle.go_constants.specs.declared.types.SpecType.TheVariants as kind
 use Rattle.go_typed.specs.Raw.{Raw, raw_of, raws_of}
 use Rattle.go_valued.specs.Settled.{all_known, all_told}
 
@@ -91,30 +95,37 @@ told_all : (w : Walk) (ys : List t.Expr) → all_in_flaws w (exprs_of ys) ≡ al
 told_all w [] = refl
 told_all w (y ∷ ys) = ap (λ (fs : List Flaw). flaws_in w y ++ fs) (told_all w ys)
 
-pub miscounted : (w v : Walk) (ys : List t.Expr) (rs : List Raw) (b : Bool) (own fs old new : List Flaw) → v ≡ w → rs ≡ raws_of v.names v.scopes ys → b ≡ all_known rs → own ≡ [] ++ all_told rs → new ≡ old ++ where_typed b own fs
-    → new ≡ old ++ where_typed (all_typed w (exprs_of ys)) (all_in_flaws w (exprs_of ys)) fs
-miscounted w v ys rs b own fs old new s e f g q =
-    q ∙ ap (λ (x : Bool). old ++ where_typed x own fs) (f ∙ ap all_known raws ∙ sym (typed_all w ys))
-    ∙ ap (λ (gs : List Flaw). old ++ where_typed (all_typed w (exprs_of ys)) gs fs) (g ∙ ap all_told raws ∙ sym (told_all w ys))
+-- whether a type is known doesn't rest on the table
+known_any : (ts us : List Ty) (s : kinds.SpecType) → spec_known (spec_view ts s) ≡ spec_known (spec_view us s)
+known_any ts us kind.Missing = refl
+known_any ts us (kind.Of t) = refl
+known_any ts us kind.Lost = refl
+
+pub miscounted : (w v : Walk) (s : kinds.SpecType) (ts us : List Ty) (ys : List t.Expr) (rs : List Raw) (at : Place) (old new : List Flaw) → v ≡ w → rs ≡ raws_of v.names v.scopes ys → new ≡ old ++ count_told (spec_view us s) at (all_known rs) (all_told rs)
+    → new ≡ old ++ count_told (spec_view ts s) at (all_typed w (exprs_of ys)) (all_in_flaws w (exprs_of ys))
+miscounted w v s ts us ys rs at old new e f q =
+    q ∙ ap (λ (b : Bool). old ++ where_typed (b && all_known rs) (all_told rs) (flaw at 84 ∷ [])) (known_any us ts s)
+    ∙ ap (λ (b : Bool). old ++ count_told (spec_view ts s) at b (all_told rs)) (ap all_known raws ∙ sym (typed_all w ys))
+    ∙ ap (λ (gs : List Flaw). old ++ count_told (spec_view ts s) at (all_typed w (exprs_of ys)) gs) (ap all_told raws ∙ sym (told_all w ys))
   where
     raws : rs ≡ raws_of w.names w.scopes ys
-    raws = e ∙ ap (λ (x : Walk). raws_of x.names x.scopes ys) s
+    raws = f ∙ ap (λ (x : Walk). raws_of x.names x.scopes ys) e
 
 -- ---- a whole specification
 
 pub spec_parts : (at : Place) (w v : Walk) (ns : List Name) (u : t.MaybeExpr) (ys : t.Exprs) (s : SpecType) (old mid new : List Flaw) → v ≡ w → s ≡ spec_type w u → mid ≡ old ++ spec_type_flaws w u
-    → new ≡ mid ++ (if names_count ns ys then each_told v s ns ys else where_typed (all_typed v ys) (all_in_flaws v ys) (flaw (spec_place ns at) 84 ∷ [])) → new ≡ old ++ spec_told at w ns u ys
+    → new ≡ mid ++ (if names_count ns ys then each_told v s ns ys else count_told s (spec_place ns at) (all_typed v ys) (all_in_flaws v ys)) → new ≡ old ++ spec_told at w ns u ys
 spec_parts at w v ns u ys s old mid new e f g q =
     q ∙ ap (λ (fs : List Flaw). fs ++ rest v s) g ∙ ap (λ (x : Walk). (old ++ spec_type_flaws w u) ++ rest x s) e ∙ ap (λ (x : SpecType). (old ++ spec_type_flaws w u) ++ rest w x) f
     ∙ append_assoc old (spec_type_flaws w u) (rest w (spec_type w u))
   where
     rest : Walk → SpecType → List Flaw
-    rest x r = if names_count ns ys then each_told x r ns ys else where_typed (all_typed x ys) (all_in_flaws x ys) (flaw (spec_place ns at) 84 ∷ [])
+    rest x r = if names_count ns ys then each_told x r ns ys else count_told r (spec_place ns at) (all_typed x ys) (all_in_flaws x ys)
 
 pub spec_values : (at : Place) (w : Walk) (ns : List Name) (s : SpecType) (zs ys : t.Exprs) (old new : List Flaw) → zs ≡ ys
-    → new ≡ old ++ (if names_count ns zs then each_told w s ns zs else where_typed (all_typed w zs) (all_in_flaws w zs) (flaw (spec_place ns at) 84 ∷ []))
-    → new ≡ old ++ (if names_count ns ys then each_told w s ns ys else where_typed (all_typed w ys) (all_in_flaws w ys) (flaw (spec_place ns at) 84 ∷ []))
-spec_values at w ns s zs ys old new q h = subst (λ (xs : t.Exprs). new ≡ old ++ (if names_count ns xs then each_told w s ns xs else where_typed (all_typed w xs) (all_in_flaws w xs) (flaw (spec_place ns at) 84 ∷ []))) q h
+    → new ≡ old ++ (if names_count ns zs then each_told w s ns zs else count_told s (spec_place ns at) (all_typed w zs) (all_in_flaws w zs))
+    → new ≡ old ++ (if names_count ns ys then each_told w s ns ys else count_told s (spec_place ns at) (all_typed w ys) (all_in_flaws w ys))
+spec_values at w ns s zs ys old new q h = subst (λ (xs : t.Exprs). new ≡ old ++ (if names_count ns xs then each_told w s ns xs else count_told s (spec_place ns at) (all_typed w xs) (all_in_flaws w xs))) q h
 
 -- ---- one specification after the other
 

@@ -11,22 +11,21 @@ ghost use Rattle.go_scopes.specs.EnvView.{table_of, env_of};
 ghost use Rattle.go_answers.specs.AnswerView.{flaw_view};
 ghost use Rattle.go_callee.specs.Words.{types_of};
 ghost use Rattle.go_items.specs.ItemView.{type_in, values_in, names_in};
-ghost use Rattle.go_statements.specs.Assign.{where_typed, all_typed, all_in_flaws};
+ghost use Rattle.go_statements.specs.Assign.{all_typed, all_in_flaws};
 ghost use Rattle.go_statements.specs.Walk as go;
-ghost use Rattle.go_statements.specs.Declare.{counting, constant_value, names_count, spec_place};
+ghost use Rattle.go_statements.specs.Declare.{counting, constant_value, names_count, spec_place, count_told};
 ghost use Rattle.go_packages.specs.Told.{each_told, spec_told, specs_told};
-ghost use Rattle.go_typing.specs.Answer.{flaw};
 ghost use Rattle.go_walk.specs.WalkView.{walk_outside};
 ghost use Rattle.go_typed.specs.Raw.{Grows};
 ghost use Rattle.go_constants.specs.SpecView.{spec_view, SpecBelow};
 
 use gj_base::{NoMemory, Place};
 use go_answers::answer::Flaw;
-use go_constants::{Spec, SpecType, constant_value, type_of_spec};
+use go_constants::{Spec, SpecType, constant_value, count_told, type_of_spec};
 use go_scopes::Env;
 use go_syntax::tree::{Expr, Name, ValueSpec};
 use go_typed::all_in;
-use go_valued::{all_known, move_all, move_flaws, told_where_typed};
+use go_valued::move_flaws;
 use std::alloc::Global;
 
 // One value.
@@ -76,23 +75,21 @@ fn place_of(names: &[Name], at: Place) -> Place
     }
 }
 
-// Too few or too many, which is told where all are typed.
+// Too few or too many, which is told where the type and all of them are typed.
 fn miscounted(
     alloc: Global,
     env: &mut Env,
     flaws: &mut Vec<Flaw>,
     at: Place,
+    ty: SpecType,
     values: &[Expr],
 ) -> Result<(), NoMemory>
-    ensures told { OnOk result (map flaw_view flaws.new.items ≡ map flaw_view flaws.old.items ++ where_typed (all_typed (walk_outside env.old) (exprs_of (map expr_view values.now))) (all_in_flaws (walk_outside env.old) (exprs_of (map expr_view values.now))) (flaw at 84 ∷ [])) }
+    ensures told { OnOk result (map flaw_view flaws.new.items ≡ map flaw_view flaws.old.items ++ count_told (spec_view (types_of env.old) ty) at (all_typed (walk_outside env.old) (exprs_of (map expr_view values.now))) (all_in_flaws (walk_outside env.old) (exprs_of (map expr_view values.now)))) }
     ensures grows { OnOk result (Grows env.old env.new) }
 {
     match all_in(alloc, env, values) {
         Ok(raws) => {
-            let known = all_known(&raws);
-            let mut own = Vec::new(alloc);
-            move_all(&mut own, raws)?;
-            told_where_typed(flaws, known, own, at, 84)?;
+            count_told(flaws, ty, at, raws)?;
             Ok(())
         }
         Err(error) => Err(error),
@@ -109,14 +106,14 @@ fn values_told(
     values: &[Expr],
 ) -> Result<(), NoMemory>
     requires ty { SpecBelow (size (table_of env.old)) ty }
-    ensures told { OnOk result (map flaw_view flaws.new.items ≡ map flaw_view flaws.old.items ++ (if names_count names.now (exprs_of (map expr_view values.now)) then each_told (walk_outside env.old) (spec_view (types_of env.old) ty) names.now (exprs_of (map expr_view values.now)) else where_typed (all_typed (walk_outside env.old) (exprs_of (map expr_view values.now))) (all_in_flaws (walk_outside env.old) (exprs_of (map expr_view values.now))) (flaw (spec_place names.now at) 84 ∷ []))) }
+    ensures told { OnOk result (map flaw_view flaws.new.items ≡ map flaw_view flaws.old.items ++ (if names_count names.now (exprs_of (map expr_view values.now)) then each_told (walk_outside env.old) (spec_view (types_of env.old) ty) names.now (exprs_of (map expr_view values.now)) else count_told (spec_view (types_of env.old) ty) (spec_place names.now at) (all_typed (walk_outside env.old) (exprs_of (map expr_view values.now))) (all_in_flaws (walk_outside env.old) (exprs_of (map expr_view values.now))))) }
     ensures grows { OnOk result (Grows env.old env.new) }
 {
     if names.len() == values.len() {
         each_told(alloc, env, flaws, ty, names, values)?;
         return Ok(());
     }
-    miscounted(alloc, env, flaws, place_of(names, at), values)?;
+    miscounted(alloc, env, flaws, place_of(names, at), ty, values)?;
     Ok(())
 }
 

@@ -1,5 +1,5 @@
 -- Names on the left of `:=`, one after the other.
-use Rattle.std.proofs.Common.{arith, ◌≡◌, ℕ, ◌<◌, ◌≤◌, ◌+◌, zero, suc, ◌∙◌, refl, sym, ap, subst, List, [], ◌∷◌, ◌++◌, append_assoc, length, map, drop, get_or, Bool, true, false, Option, Some, None}
+use Rattle.std.proofs.Common.{arith, ◌≡◌, ℕ, ◌<◌, ◌≤◌, ◌+◌, zero, suc, ◌∙◌, refl, sym, ap, subst, List, [], ◌∷◌, ◌++◌, append_assoc, length, map, drop, get_or, Bool, true, false, ◌&&◌, Option, Some, None}
 use Rattle.std.specs.Prelude.{if◌then◌else◌}
 use Rattle.std.specs.List.{AllByRecursion}
 use Rattle.std.proofs.lemmas.List.{append-nil}
@@ -35,8 +35,8 @@ use Rattle.go_effects.specs.Moves.{Moves}
 use Rattle.go_effects.proofs.WalkLemmas.{moves_in}
 use Rattle.go_effects.proofs.OutcomeLemmas.{does_made, does_same}
 use Rattle.go_define.specs.declared.fresh.Fresh as code_fresh
-use Rattle.go_define.specs.FreshView.{Spot, fresh_view, fresh_after, FreshBelow}
-use Rattle.go_define.specs.Defining.{Take, Done, done, take_flaws, Defines, spot_stmts, spot_target, spot_walk, spot_valued, valued_take, value_takes, value_cores, type_flaws, type_take, type_takes, defined, unknowns, not_defined, as_many_values, as_many_types, defined_by}
+use Rattle.go_define.specs.FreshView.{Spot, fresh_view, fresh_after, FreshBelow, spots_typed}
+use Rattle.go_define.specs.Defining.{Take, Done, done, take_flaws, Defines, spot_stmts, spot_target, spot_walk, spot_valued, valued_take, value_takes, value_cores, type_flaws, type_take, type_takes, defined, unknowns, spot_flaws, spots_flaws, parts_flaws, not_defined, as_many_values, as_many_types, defined_by}
 
 -- ---- the table stays
 
@@ -251,11 +251,11 @@ call_does fs ks r a c g0 gs f0 f1 f2 o0 o1 o2 z d t s =
 
 -- ---- a wrong count
 
-pub parts_told : (at : Place) (rs : List Raw) (fs before after mid parts : List Flaw) (none : List code.Flaw) (known : Bool) → none ≡ [] → known ≡ all_known rs → mid ≡ map flaw_view none ++ all_told rs → parts ≡ mid ++ fs
-    → after ≡ before ++ where_typed known parts (flaw at 84 ∷ []) → after ≡ before ++ where_typed (all_known rs) (all_told rs ++ fs) (flaw at 84 ∷ [])
-parts_told at rs fs before after mid parts none known z k m p h =
-    h ∙ ap (λ (b : Bool). before ++ where_typed b parts (flaw at 84 ∷ [])) k
-    ∙ ap (λ (x : List Flaw). before ++ where_typed (all_known rs) x (flaw at 84 ∷ [])) (p ∙ ap (λ (x : List Flaw). x ++ fs) (m ∙ ap (λ (x : List code.Flaw). map flaw_view x ++ all_told rs) z))
+pub parts_told : (at : Place) (number : ℕ) (rs : List Raw) (fs before after mid parts : List Flaw) (none : List code.Flaw) (typed known : Bool) → none ≡ [] → known ≡ (typed && all_known rs) → mid ≡ map flaw_view none ++ all_told rs → parts ≡ mid ++ fs
+    → after ≡ before ++ where_typed known parts (flaw at number ∷ []) → after ≡ before ++ where_typed (typed && all_known rs) (all_told rs ++ fs) (flaw at number ∷ [])
+parts_told at number rs fs before after mid parts none typed known z k m p h =
+    h ∙ ap (λ (b : Bool). before ++ where_typed b parts (flaw at number ∷ [])) k
+    ∙ ap (λ (x : List Flaw). before ++ where_typed (typed && all_known rs) x (flaw at number ∷ [])) (p ∙ ap (λ (x : List Flaw). x ++ fs) (m ∙ ap (λ (x : List code.Flaw). map flaw_view x ++ all_told rs) z))
 
 pub unknowns_step : (b c : Walk) (fs fs1 : List code_fresh.Fresh) (s : Spot) (ts : List Ty) (u : go.Walk) → fresh_after (places (table_of b.env)) fs [] ≡ s ∷ fresh_after (places (table_of b.env)) fs1 [] → walk_of ts c ≡ spot_walk s None (walk_of ts b) → table_of c.env ≡ table_of b.env
     → unknowns (fresh_after (places (table_of b.env)) fs []) (walk_of ts b) ≡ u → unknowns (fresh_after (places (table_of c.env)) fs1 []) (walk_of ts c) ≡ u
@@ -268,10 +268,30 @@ unknowns_step b c fs fs1 s ts u p m e h =
 pub unknowns_end : (ss all : List Spot) (a b : Walk) → ss ≡ [] → table_of b.env ≡ table_of a.env → depth b ≡ depth a → ((ts : List Ty) → Keeps (table_of b.env) ts → unknowns ss (walk_of ts b) ≡ unknowns all (walk_of ts a)) → Moves (unknowns all) a b
 unknowns_end ss all a b p t d h = moves_in (unknowns all) a b t d (λ ts l. sym (ap (λ (x : List Spot). unknowns x (walk_of ts b)) p) ∙ h ts (keeps_back (table_of a.env) (table_of b.env) ts t l))
 
-pub not_does : (at : Place) (fs : List Flaw) (ss : List Spot) (rs : List Raw) (a c : Walk) (f0 f1 : List code.Flaw) (out : List CoreStmt) → Moves (unknowns ss) a c → map flaw_view f1 ≡ map flaw_view f0 ++ where_typed (all_known rs) (all_told rs ++ fs) (flaw at 84 ∷ [])
-    → Does (not_defined at fs ss rs) a c f0 f1 out out
-not_does at fs ss rs a c f0 f1 out m h =
-    does_made (not_defined at fs ss rs) (unknowns ss) a c (where_typed (all_known rs) (all_told rs ++ fs) (flaw at 84 ∷ [])) [] f0 f1 out out m (record { told = h; core = λ ts l. sym (append-nil (map (stmt_view ts) out)) }) (λ ts. refl)
+pub olds_step : (ss ss1 : List Spot) (s : Spot) (before after all : List Flaw) → ss ≡ s ∷ ss1 → after ≡ before ++ spot_flaws s → before ++ spots_flaws ss ≡ all → after ++ spots_flaws ss1 ≡ all
+olds_step ss ss1 s before after all p q h =
+    ap (λ (x : List Flaw). x ++ spots_flaws ss1) q ∙ append_assoc before (spot_flaws s) (spots_flaws ss1) ∙ sym (ap (λ (x : List Spot). before ++ spots_flaws x) p) ∙ h
+
+pub old_step : (b c : Walk) (fs fs1 : List code_fresh.Fresh) (s : Spot) (before after all : List Flaw) → fresh_after (places (table_of b.env)) fs [] ≡ s ∷ fresh_after (places (table_of b.env)) fs1 [] → table_of c.env ≡ table_of b.env → after ≡ before ++ spot_flaws s
+    → before ++ spots_flaws (fresh_after (places (table_of b.env)) fs []) ≡ all → after ++ spots_flaws (fresh_after (places (table_of c.env)) fs1 []) ≡ all
+old_step b c fs fs1 s before after all p e q h =
+    ap (λ (t : TypeTable). after ++ spots_flaws (fresh_after (places t) fs1 [])) e ∙ olds_step (fresh_after (places (table_of b.env)) fs []) (fresh_after (places (table_of b.env)) fs1 []) s before after all p q h
+
+pub old_end : (ss : List Spot) (now all : List Flaw) → ss ≡ [] → now ++ spots_flaws ss ≡ all → now ≡ all
+old_end ss now all p h = sym (append-nil now) ∙ sym (ap (λ (x : List Spot). now ++ spots_flaws x) p) ∙ h
+
+-- first where all are typed, and then of the names
+pub sides_said : (f : Flaw) (fs : List Flaw) (ss : List Spot) (rs : List Raw) (f0 f1 f2 : List code.Flaw) (typed : Bool) → typed ≡ spots_typed ss → map flaw_view f1 ≡ map flaw_view f0 ++ where_typed (typed && all_known rs) (all_told rs ++ fs) (f ∷ [])
+    → map flaw_view f2 ≡ map flaw_view f1 ++ spots_flaws ss → map flaw_view f2 ≡ map flaw_view f0 ++ parts_flaws f fs ss rs
+sides_said f fs ss rs f0 f1 f2 typed k h g =
+    g ∙ ap (λ (x : List Flaw). x ++ spots_flaws ss) (h ∙ ap (λ (b : Bool). map flaw_view f0 ++ where_typed (b && all_known rs) (all_told rs ++ fs) (f ∷ [])) k)
+    ∙ append_assoc (map flaw_view f0) (where_typed (spots_typed ss && all_known rs) (all_told rs ++ fs) (f ∷ [])) (spots_flaws ss)
+
+pub not_does : (at : Place) (fs : List Flaw) (ss : List Spot) (rs : List Raw) (a c : Walk) (f0 f1 f2 : List code.Flaw) (typed : Bool) (out : List CoreStmt) → Moves (unknowns ss) a c → typed ≡ spots_typed ss
+    → map flaw_view f1 ≡ map flaw_view f0 ++ where_typed (typed && all_known rs) (all_told rs ++ fs) (flaw at 84 ∷ []) → map flaw_view f2 ≡ map flaw_view f1 ++ spots_flaws ss → Does (not_defined at fs ss rs) a c f0 f2 out out
+not_does at fs ss rs a c f0 f1 f2 typed out m k h g =
+    does_made (not_defined at fs ss rs) (unknowns ss) a c (parts_flaws (flaw at 84) fs ss rs) [] f0 f2 out out m
+    (record { told = sides_said (flaw at 84) fs ss rs f0 f1 f2 typed k h g; core = λ ts l. sym (append-nil (map (stmt_view ts) out)) }) (λ ts. refl)
 
 -- ---- how many
 

@@ -85,6 +85,10 @@ right_told : (k : Bool) (p : Flaw) (ps fs : List Flaw) → where_right k (p ∷ 
 right_told true p ps fs = refl
 right_told false p ps fs = refl
 
+pub right_and : (k a ks : Bool) (ps fs : List Flaw) → (if a then fs else []) ≡ where_right ks ps fs → (if (k && a) then fs else []) ≡ where_right (k && ks) ps fs
+right_and true a ks ps fs h = h
+right_and false a ks ps fs h = sym (right_not ps fs)
+
 right_one : (k : Bool) (gs : List Flaw) (a ks : Bool) (ps fs : List Flaw) → (if a then fs else []) ≡ where_right ks ps fs → (if ((k && is_clean gs) && a) then fs else []) ≡ where_right (k && ks) (gs ++ ps) fs
 right_one false gs a ks ps fs h = sym (right_not (gs ++ ps) fs)
 right_one true [] a ks ps fs h = h

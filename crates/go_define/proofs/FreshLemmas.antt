@@ -1,5 +1,5 @@
 -- Names on the left by their text, and in a list where the last one is held first.
-use Rattle.std.proofs.Common.{arith, ◌≡◌, ◌<◌, ◌≤◌, ◌+◌, ◌-◌, ℕ, ◌∙◌, refl, sym, ap, subst, zero, suc, List, [], ◌∷◌, ◌++◌, length, map, drop, get_or, Bool, true, false}
+use Rattle.std.proofs.Common.{arith, ◌≡◌, ◌<◌, ◌≤◌, ◌+◌, ◌-◌, ℕ, ◌∙◌, refl, sym, ap, subst, zero, suc, List, [], ◌∷◌, ◌++◌, length, map, drop, get_or, Bool, true, false, ◌&&◌}
 use Rattle.std.specs.Prelude.{Option, Some, None, MatchOption, option_to_list, if◌then◌else◌}
 use Rattle.std.specs.List.{AllByRecursion}
 use Rattle.std.proofs.Math.Seq.{drop-cons}
@@ -32,7 +32,7 @@ use Rattle.go_assign.specs.declared.left.Left.TheVariants as left
 use Rattle.go_assign.specs.LeftView.{left_view, LeftBelow}
 use Rattle.go_define.specs.declared.fresh.Fresh as code
 use Rattle.go_define.specs.declared.fresh.Fresh.TheVariants as fresh
-use Rattle.go_define.specs.FreshView.{Spot, new_spot, old_spot, blank_spot, other_spot, spot_by, spot_of, spots_of, fresh_view, fresh_after, FreshBelow, plain_name, is_new_spot, any_new_spot}
+use Rattle.go_define.specs.FreshView.{Spot, new_spot, old_spot, blank_spot, other_spot, spot_by, spot_of, spots_of, fresh_view, fresh_after, FreshBelow, plain_name, is_new_spot, any_new_spot, spot_typed, spots_typed}
 
 pub stays_not : (w : Walk) → Stays w w
 stays_not w = record { grows = grows_not w.env; walk = λ ts. refl }
@@ -273,3 +273,39 @@ new_stop ts xs i f h e k =
 
 pub new_end : (ts : List Ty) (xs : List code.Fresh) (i : ℕ) → length xs ≤ i → any_new_spot (fresh_after ts (drop i xs) []) ≡ false
 new_end ts xs i h = ap (λ (x : List code.Fresh). any_new_spot (fresh_after ts x [])) (past xs i h)
+
+-- ---- whether all are typed
+
+grouped : (k a b : Bool) → (k && (a && b)) ≡ ((k && (a && true)) && b)
+grouped true true b = refl
+grouped true false b = refl
+grouped false a b = refl
+
+typed_after : (ts : List Ty) (fs : List code.Fresh) (after : List Spot) → spots_typed (fresh_after ts fs after) ≡ (spots_typed (fresh_after ts fs []) && spots_typed after)
+typed_after ts [] after = refl
+typed_after ts (f ∷ fs) after =
+    typed_after ts fs (fresh_view ts f ∷ after) ∙ grouped (spots_typed (fresh_after ts fs [])) (spot_typed (fresh_view ts f)) (spots_typed after)
+    ∙ ap (λ (b : Bool). b && spots_typed after) (sym (typed_after ts fs (fresh_view ts f ∷ [])))
+
+and_is : (k b : Bool) → true ≡ b → (k && (b && true)) ≡ k
+and_is true true h = refl
+and_is false b h = refl
+and_is true false h = absurd (cc)
+
+and_not : (k b : Bool) → false ≡ b → (k && (b && true)) ≡ false
+and_not true false h = refl
+and_not false b h = refl
+and_not true true h = absurd (cc)
+
+pub typed_step : (ts : List Ty) (xs : List code.Fresh) (i : ℕ) (f : code.Fresh) → i < length xs → f ≡ get_or xs i f → true ≡ spot_typed (fresh_view ts f) → spots_typed (fresh_after ts (drop i xs) []) ≡ spots_typed (fresh_after ts (drop (i + 1) xs) [])
+typed_step ts xs i f h e k =
+    ap (λ (x : List code.Fresh). spots_typed (fresh_after ts x [])) (next_at xs i f h e) ∙ typed_after ts (drop (i + 1) xs) (fresh_view ts f ∷ [])
+    ∙ and_is (spots_typed (fresh_after ts (drop (i + 1) xs) [])) (spot_typed (fresh_view ts f)) k
+
+pub typed_stop : (ts : List Ty) (xs : List code.Fresh) (i : ℕ) (f : code.Fresh) → i < length xs → f ≡ get_or xs i f → false ≡ spot_typed (fresh_view ts f) → spots_typed (fresh_after ts (drop i xs) []) ≡ false
+typed_stop ts xs i f h e k =
+    ap (λ (x : List code.Fresh). spots_typed (fresh_after ts x [])) (next_at xs i f h e) ∙ typed_after ts (drop (i + 1) xs) (fresh_view ts f ∷ [])
+    ∙ and_not (spots_typed (fresh_after ts (drop (i + 1) xs) [])) (spot_typed (fresh_view ts f)) k
+
+pub typed_end : (ts : List Ty) (xs : List code.Fresh) (i : ℕ) → length xs ≤ i → spots_typed (fresh_after ts (drop i xs) []) ≡ true
+typed_end ts xs i h = ap (λ (x : List code.Fresh). spots_typed (fresh_after ts x [])) (past xs i h)

@@ -1,5 +1,5 @@
 -- What is told of the names on the left, one after the other.
-use Rattle.std.proofs.Common.{arith, ◌≡◌, ◌<◌, ◌≤◌, ◌+◌, ℕ, ◌∙◌, refl, sym, ap, zero, suc, List, [], ◌∷◌, ◌++◌, append_assoc, length, map, drop, get_or, Bool, true, false, ◌||◌}
+use Rattle.std.proofs.Common.{arith, ◌≡◌, ◌<◌, ◌≤◌, ◌+◌, ℕ, ◌∙◌, refl, sym, ap, zero, suc, List, [], ◌∷◌, ◌++◌, append_assoc, length, map, drop, get_or, Bool, true, false, ◌||◌, ◌&&◌}
 use Rattle.std.specs.Prelude.{Option, Some, None, bytes_eq, if◌then◌else◌}
 use Rattle.std.proofs.lemmas.List.{append-nil}
 use Rattle.std.proofs.Math.Seq.{drop-cons}
@@ -23,7 +23,7 @@ use Rattle.go_walk.specs.declared.walk.Walk.{Walk}
 use Rattle.go_typed.specs.declared.raw.Raw as code_raw
 use Rattle.go_typed.specs.Raw.{Raw, raw_of, raw_view}
 use Rattle.go_effects.specs.Moves.{Stays}
-use Rattle.go_define.specs.FreshView.{Spot, plain_name, any_new_spot}
+use Rattle.go_define.specs.FreshView.{Spot, plain_name, any_new_spot, spots_typed}
 use Rattle.go_define.specs.Told.{twice_told, no_name_told, name_told_by, name_told, seen_with, all_fine, new_told}
 use Rattle.go_define.proofs.FreshLemmas.{outside_grown}
 
@@ -162,10 +162,10 @@ first_some (y ∷ xs) x at p h q k = k ∙ ap (λ (e : Expr). place_of (expr_vie
 
 -- ---- none is new
 
-pub new_all : (at p : Place) (xs : List t.Expr) (ss : List Spot) (rs : List Raw) (b c : Bool) (f0 f1 : List Flaw) → b ≡ any_new_spot ss → c ≡ all_fine rs → p ≡ first_place (exprs_of xs) at → f1 ≡ f0 ++ (if b then [] else (if c then flaw p 83 ∷ [] else []))
+pub new_all : (at p : Place) (xs : List t.Expr) (ss : List Spot) (rs : List Raw) (b c : Bool) (f0 f1 : List Flaw) → b ≡ any_new_spot ss → c ≡ (spots_typed ss && all_fine rs) → p ≡ first_place (exprs_of xs) at → f1 ≡ f0 ++ (if b then [] else (if c then flaw p 83 ∷ [] else []))
     → f1 ≡ f0 ++ new_told at xs ss rs
 new_all at p xs ss rs b c f0 f1 h k q e =
     e
     ∙ ap (λ (d : Bool). f0 ++ (if d then [] else (if c then flaw p 83 ∷ [] else []))) h
     ∙ ap (λ (d : Bool). f0 ++ (if any_new_spot ss then [] else (if d then flaw p 83 ∷ [] else []))) k
-    ∙ ap (λ (r : Place). f0 ++ (if any_new_spot ss then [] else (if all_fine rs then flaw r 83 ∷ [] else []))) q
+    ∙ ap (λ (r : Place). f0 ++ (if any_new_spot ss then [] else (if spots_typed ss && all_fine rs then flaw r 83 ∷ [] else []))) q

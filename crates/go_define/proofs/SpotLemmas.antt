@@ -1,5 +1,5 @@
 -- What comes of names and values, as the definitions say it of the expressions.
-use Rattle.std.proofs.Common.{◌≡◌, ℕ, ◌∙◌, refl, sym, ap, List, [], ◌∷◌, ◌++◌, Option, Some, None, Bool, true, false}
+use Rattle.std.proofs.Common.{◌≡◌, ℕ, ◌∙◌, refl, sym, ap, List, [], ◌∷◌, ◌++◌, Option, Some, None, Bool, true, false, ◌&&◌}
 use Rattle.std.specs.Prelude.{if◌then◌else◌}
 use Rattle.gj_base.specs.declared.place.Place.{Place}
 use Rattle.go_syntax.specs.Tree as t
@@ -17,18 +17,18 @@ use Rattle.go_typing.specs.Typing.{place_of}
 use Rattle.go_statements.specs.Walk as go
 use Rattle.go_statements.specs.Walk.{Walk, Did, is_there}
 use Rattle.go_statements.specs.Expressions.{Valued, answer_in, several_types, core_of, type_of}
-use Rattle.go_statements.specs.Assign.{left_flaws, left_of, target_of, takes, count_of, same_number, all_typed, all_in_flaws, where_typed, where_right, several_right, Fresh, new_name, old_name, blank_name, no_name, fresh_of, fresh_by, name_of, names_flaws, is_new, any_new, first_place, define_flaws, Defined, no_more, defined_more, define_new, define_one, define_each, defined_did, define_type_new, define_type, define_types, with_unknown_new, with_fresh, unknown_names, define_miscounted, define_call, define_by}
+use Rattle.go_statements.specs.Assign.{left_flaws, left_of, target_of, takes, count_of, same_number, all_typed, all_in_flaws, where_typed, where_right, several_right, side_typed, sides_typed, sides_told, fresh_flaws, old_flaws, Fresh, new_name, old_name, blank_name, no_name, fresh_of, fresh_by, name_of, names_flaws, is_new, any_new, first_place, define_flaws, Defined, no_more, defined_more, define_new, define_one, define_each, defined_did, define_type_new, define_type, define_types, with_unknown_new, with_fresh, unknown_names, define_miscounted, define_call, define_by}
 use Rattle.go_statements.specs.Declare.{declare_one, declare_stmts, declare_target}
 use Rattle.go_typed.specs.Raw.{Raw, raw_of, raws_of}
 use Rattle.go_valued.specs.Settled.{all_known, all_told, several_in}
 use Rattle.go_effects.proofs.RawLemmas.{typed_all, told_all, several_all}
 use Rattle.go_effects.proofs.OutcomeLemmas.{made}
 use Rattle.go_assign.proofs.SideLemmas.{left_same, fit_for}
-use Rattle.go_define.specs.FreshView.{Spot, new_spot, old_spot, blank_spot, other_spot, spot_by, spot_of, spots_of, plain_name, is_new_spot, any_new_spot}
+use Rattle.go_define.specs.FreshView.{Spot, new_spot, old_spot, blank_spot, other_spot, spot_by, spot_of, spots_of, plain_name, is_new_spot, any_new_spot, spot_typed, spots_typed}
 use Rattle.go_define.specs.Told.{all_fine, names_told}
-use Rattle.go_define.specs.Defining.{Take, Done, done, take_flaws, spot_stmts, spot_target, spot_walk, spot_valued, value_takes, value_cores, type_flaws, type_takes, defined, unknowns, not_defined, as_many_values, as_many_types, defined_by}
+use Rattle.go_define.specs.Defining.{Take, Done, done, take_flaws, spot_stmts, spot_target, spot_walk, spot_valued, value_takes, value_cores, type_flaws, type_takes, defined, unknowns, spot_flaws, spots_flaws, parts_flaws, not_defined, as_many_values, as_many_types, defined_by}
 use Rattle.go_define.proofs.NameLemmas.{seen_after, told_by, flaws_step}
-use Rattle.go_define.proofs.FineLemmas.{fine_right}
+use Rattle.go_define.proofs.FineLemmas.{fine_right, right_and}
 
 -- ---- of the walk only names and scopes are asked
 
@@ -100,6 +100,16 @@ any_all : (w : Walk) (xs : List Expr) → any_new_spot (spots_of w xs) ≡ any_n
 any_all w [] = refl
 any_all w (x ∷ xs) = ap (λ (b : Bool). if b then true else any_new_spot (spots_of w xs)) (new_by w (fresh_of w x)) ∙ ap (λ (b : Bool). if is_new (fresh_of w x) then true else b) (any_all w xs)
 
+typed_by : (w : Walk) (f : Fresh) → spot_typed (spot_by w f) ≡ side_typed w f
+typed_by w (new_name n) = refl
+typed_by w (old_name e) = refl
+typed_by w blank_name = refl
+typed_by w (no_name p) = refl
+
+sides_all : (w : Walk) (xs : List Expr) → spots_typed (spots_of w xs) ≡ sides_typed w (view.exprs_of xs)
+sides_all w [] = refl
+sides_all w (x ∷ xs) = ap (λ (b : Bool). b && spots_typed (spots_of w xs)) (typed_by w (fresh_of w x)) ∙ ap (λ (b : Bool). side_typed w (fresh_of w x) && b) (sides_all w xs)
+
 fine_all : (w : Walk) (ys : List Expr) (fs : List Flaw) → (if all_fine (raws_of w.names w.scopes ys) then fs else []) ≡ where_right (all_typed w (view.exprs_of ys)) (all_in_flaws w (view.exprs_of ys)) fs
 fine_all w ys fs =
     let rs = raws_of w.names w.scopes ys in
@@ -111,7 +121,10 @@ flaws_all : (at : Place) (w : Walk) (xs ys : List Expr) → names_told w at xs (
 flaws_all at w xs ys =
     let told = names_flaws w [] (view.exprs_of xs) in
     let last = flaw (first_place (view.exprs_of xs) at) 83 ∷ [] in
-    ap (λ (b : Bool). told ++ (if b then [] else (if all_fine (raws_of w.names w.scopes ys) then last else []))) (any_all w xs) ∙ ap (λ (fs : List Flaw). told ++ (if any_new w (view.exprs_of xs) then [] else fs)) (fine_all w ys last)
+    let fine = all_fine (raws_of w.names w.scopes ys) in
+    ap (λ (b : Bool). told ++ (if b then [] else (if spots_typed (spots_of w xs) && fine then last else []))) (any_all w xs)
+    ∙ ap (λ (b : Bool). told ++ (if any_new w (view.exprs_of xs) then [] else (if b && fine then last else []))) (sides_all w xs)
+    ∙ ap (λ (fs : List Flaw). told ++ (if any_new w (view.exprs_of xs) then [] else fs)) (right_and (sides_typed w (view.exprs_of xs)) fine (all_typed w (view.exprs_of ys)) (all_in_flaws w (view.exprs_of ys)) last (fine_all w ys last))
 
 -- ---- as many
 
@@ -199,11 +212,31 @@ unknowns_all : (w : Walk) (xs : List Expr) (u : Walk) → unknowns (spots_of w x
 unknowns_all w [] u = refl
 unknowns_all w (x ∷ xs) u = ap (unknowns (spots_of w xs)) (one_unknown w (fresh_of w x) u) ∙ unknowns_all w xs (with_fresh (fresh_of w x) u)
 
+old_by : (w : Walk) (f : Fresh) → spot_flaws (spot_by w f) ≡ fresh_flaws w f
+old_by w (new_name n) = refl
+old_by w (old_name e) = refl
+old_by w blank_name = refl
+old_by w (no_name p) = refl
+
+olds_all : (w : Walk) (xs : List Expr) → spots_flaws (spots_of w xs) ≡ old_flaws w (view.exprs_of xs)
+olds_all w [] = refl
+olds_all w (x ∷ xs) = ap (λ (fs : List Flaw). fs ++ spots_flaws (spots_of w xs)) (old_by w (fresh_of w x)) ∙ ap (λ (fs : List Flaw). fresh_flaws w (fresh_of w x) ++ fs) (olds_all w xs)
+
+pub parts_all : (f : Flaw) (w : Walk) (fs : List Flaw) (xs ys : List Expr) → parts_flaws f fs (spots_of w xs) (raws_of w.names w.scopes ys) ≡ sides_told f w fs (view.exprs_of xs) (view.exprs_of ys)
+parts_all f w fs xs ys =
+    let X = view.exprs_of xs in
+    let Y = view.exprs_of ys in
+    let rs = raws_of w.names w.scopes ys in
+    let ss = spots_of w xs in
+    ap (λ (b : Bool). where_typed (b && all_known rs) (all_told rs ++ fs) (f ∷ []) ++ spots_flaws ss) (sides_all w xs)
+    ∙ ap (λ (b : Bool). where_typed (sides_typed w X && b) (all_told rs ++ fs) (f ∷ []) ++ spots_flaws ss) (sym (typed_all w ys))
+    ∙ ap (λ (gs : List Flaw). where_typed (sides_typed w X && all_typed w Y) (gs ++ fs) (f ∷ []) ++ spots_flaws ss) (sym (told_all w ys))
+    ∙ ap (λ (gs : List Flaw). where_typed (sides_typed w X && all_typed w Y) (all_in_flaws w Y ++ fs) (f ∷ []) ++ gs) (olds_all w xs)
+
 counted : (at : Place) (w : Walk) (fs : List Flaw) (xs ys : List Expr) (u : Walk) → not_defined at fs (spots_of w xs) (raws_of w.names w.scopes ys) u ≡ define_miscounted at w fs (view.exprs_of xs) (view.exprs_of ys) u
 counted at w fs xs ys u =
-    ap (λ (b : Bool). made [] (where_typed b (all_told (raws_of w.names w.scopes ys) ++ fs) (flaw at 84 ∷ [])) (unknowns (spots_of w xs) u)) (sym (typed_all w ys))
-    ∙ ap (λ (gs : List Flaw). made [] (where_typed (all_typed w (view.exprs_of ys)) (gs ++ fs) (flaw at 84 ∷ [])) (unknowns (spots_of w xs) u)) (sym (told_all w ys))
-    ∙ ap (λ (v : Walk). made [] (where_typed (all_typed w (view.exprs_of ys)) (all_in_flaws w (view.exprs_of ys) ++ fs) (flaw at 84 ∷ [])) v) (unknowns_all w xs u)
+    ap (λ (gs : List Flaw). made [] gs (unknowns (spots_of w xs) u)) (parts_all (flaw at 84) w fs xs ys)
+    ∙ ap (λ (v : Walk). made [] (sides_told (flaw at 84) w fs (view.exprs_of xs) (view.exprs_of ys)) v) (unknowns_all w xs u)
 
 -- ---- the statement
 

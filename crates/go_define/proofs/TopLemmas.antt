@@ -1,5 +1,6 @@
 -- `xs := ys` as a statement.
-use Rattle.std.proofs.Common.{arith, ◌≡◌, ◌<◌, ◌∙◌, refl, sym, ap, List, [], ◌∷◌, ◌++◌, length, map}
+use Rattle.std.proofs.Common.{arith, ◌≡◌, ◌<◌, ◌∙◌, refl, sym, ap, List, [], ◌∷◌, ◌++◌, length, map, Bool, ◌&&◌}
+use Rattle.std.proofs.lemmas.List.{append-nil}
 use Rattle.std.specs.List.{AllByRecursion}
 use Rattle.gj_base.specs.declared.place.Place.{Place}
 use Rattle.go_syntax.specs.Tree as t
@@ -9,7 +10,7 @@ use Rattle.go_type.specs.Named.{NamedTy}
 use Rattle.go_type.specs.Table.{size}
 use Rattle.go_core.specs.CoreView.{stmt_view, var_of}
 use Rattle.go_core.specs.declared.statement.CoreStmt.{CoreStmt}
-use Rattle.go_typing.specs.Answer.{Flaw}
+use Rattle.go_typing.specs.Answer.{Flaw, flaw}
 use Rattle.go_scopes.specs.declared.env.Env.{Env}
 use Rattle.go_scopes.specs.EnvView.{table_of, env_of}
 use Rattle.go_answers.specs.AnswerView.{flaw_view}
@@ -17,21 +18,22 @@ use Rattle.go_answers.specs.declared.answer.Flaw as code
 use Rattle.go_callee.specs.Words.{types_of, names_of, scopes_of}
 use Rattle.go_statements.specs.Walk as go
 use Rattle.go_statements.specs.Walk.{Did, uses_all}
-use Rattle.go_statements.specs.Assign.{names_flaws, left_uses, define, define_flaws, define_by, several_right}
+use Rattle.go_statements.specs.Assign.{names_flaws, left_uses, define, define_flaws, define_by, several_right, first_place, where_typed, sides_told, undeclared}
 use Rattle.go_walk.specs.WalkView.{walk_of, walk_outside, depth}
 use Rattle.go_walk.specs.declared.walk.Walk.{Walk}
 use Rattle.go_typed.specs.Raw.{Raw, raws_of}
 use Rattle.go_valued.specs.Outcome.{Does}
-use Rattle.go_valued.specs.Settled.{several_in}
+use Rattle.go_valued.specs.Settled.{all_known, all_told, several_in}
 use Rattle.go_effects.specs.Moves.{Moves, Stays}
 use Rattle.go_effects.proofs.WalkLemmas.{names_grown, raws_grown, depth_grown, stays_on, moves_stays, moves_on}
-use Rattle.go_effects.proofs.OutcomeLemmas.{does_moved}
+use Rattle.go_effects.proofs.OutcomeLemmas.{made, does_made, does_moved}
 use Rattle.go_define.specs.declared.fresh.Fresh as code_fresh
-use Rattle.go_define.specs.FreshView.{Spot, spots_of, fresh_after, FreshBelow}
+use Rattle.go_define.specs.FreshView.{Spot, spots_of, fresh_after, FreshBelow, spots_typed}
 use Rattle.go_define.specs.Told.{new_told, names_told}
-use Rattle.go_define.specs.Defining.{defined_by}
+use Rattle.go_define.specs.Defining.{parts_flaws, spots_flaws, defined_by}
 use Rattle.go_define.proofs.FreshLemmas.{outside_grown, freshes_kept, freshes_below}
-use Rattle.go_define.proofs.SpotLemmas.{spots_same, names_same, define_all}
+use Rattle.go_define.proofs.SpotLemmas.{spots_same, names_same, parts_all, define_all}
+use Rattle.go_define.proofs.AllLemmas.{sides_said}
 
 pub uses_both : (X Y : t.Exprs) (a b c : Walk) → Moves (left_uses X) a b → Moves (uses_all Y) b c → Moves (λ w. uses_all Y (left_uses X w)) a c
 uses_both X Y a b c h k = moves_on (left_uses X) (uses_all Y) a b c h k
@@ -103,3 +105,32 @@ define_done at X Y a b c d e g0 g1 g2 ss rs f0 f1 o0 o1 m v s k z p q h r y =
     (q ∙ ap (λ (x : List Flaw). x ++ new_told at X ss rs) (p ∙ ap (λ (x : List code.Flaw). map flaw_view x ++ names_flaws (walk_outside b.env) [] (exprs_of X)) z))
     (h ∙ ap (λ (w : go.Walk). spots_of w X) (outside_grown b.env c.env s.grows))
     (raws_grown b.env c.env rs Y s.grows r) y
+
+-- ---- where none may stand
+
+undeclared_said : (at p : Place) (X Y : List t.Expr) (a : Walk) (e : Env) (fs : List Flaw) (ss : List Spot) (rs : List Raw) (ts : List Ty) → e ≡ a.env → fs ≡ names_flaws (walk_outside e) [] (exprs_of X) → ss ≡ spots_of (walk_outside e) X → rs ≡ raws_of (names_of e) (scopes_of e) Y
+    → p ≡ first_place (exprs_of X) at → parts_flaws (flaw p 83) fs ss rs ≡ sides_told (flaw (first_place (exprs_of X) at) 83) (walk_of ts a) (names_flaws (walk_of ts a) [] (exprs_of X)) (exprs_of X) (exprs_of Y)
+undeclared_said at p X Y a e fs ss rs ts q r h k z =
+    let w = walk_of ts a in
+    let f = flaw (first_place (exprs_of X) at) 83 in
+    let same : ss ≡ spots_of w X = h ∙ ap (λ (x : Env). spots_of (walk_outside x) X) q ∙ sym (spots_same (names_of a.env) (scopes_of a.env) a.next a.next_label (map (var_of ts) a.vars.items) a.declared.items a.used.items X) in
+    let values : rs ≡ raws_of (names_of a.env) (scopes_of a.env) Y = k ∙ ap (λ (x : Env). raws_of (names_of x) (scopes_of x) Y) q in
+    let told : fs ≡ names_flaws w [] (exprs_of X) =
+    r ∙ ap (λ (x : Env). names_flaws (walk_outside x) [] (exprs_of X)) q ∙ sym (names_same (names_of a.env) (scopes_of a.env) a.next a.next_label (map (var_of ts) a.vars.items) a.declared.items a.used.items [] X) in
+    ap (λ (x : Place). parts_flaws (flaw x 83) fs ss rs) z
+    ∙ ap (λ (x : List Flaw). parts_flaws f x ss rs) told
+    ∙ ap (λ (x : List Spot). parts_flaws f (names_flaws w [] (exprs_of X)) x rs) same
+    ∙ ap (λ (x : List Raw). parts_flaws f (names_flaws w [] (exprs_of X)) (spots_of w X) x) values
+    ∙ parts_all f w (names_flaws w [] (exprs_of X)) X Y
+
+pub undeclared_done : (at p : Place) (X Y : List t.Expr) (a b c d : Walk) (g0 g1 : List code.Flaw) (typed : Bool) (ss : List Spot) (rs : List Raw) (f0 f1 f2 : List code.Flaw) (out : List CoreStmt) → Moves (λ w. uses_all (exprs_of Y) (left_uses (exprs_of X) w)) a b → b.env ≡ a.env → Stays b c → Stays c d
+    → g0 ≡ [] → map flaw_view g1 ≡ map flaw_view g0 ++ names_flaws (walk_outside b.env) [] (exprs_of X) → ss ≡ spots_of (walk_outside c.env) X → rs ≡ raws_of (names_of c.env) (scopes_of c.env) Y → typed ≡ spots_typed ss → p ≡ first_place (exprs_of X) at
+    → map flaw_view f1 ≡ map flaw_view f0 ++ where_typed (typed && all_known rs) (all_told rs ++ map flaw_view g1) (flaw p 83 ∷ []) → map flaw_view f2 ≡ map flaw_view f1 ++ spots_flaws ss → Does (undeclared at (exprs_of X) (exprs_of Y)) a d f0 f2 out out
+undeclared_done at p X Y a b c d g0 g1 typed ss rs f0 f1 f2 out m v s k z q h r y x t u =
+    let f = both (exprs_of X) (exprs_of Y) in
+    let fs : map flaw_view g1 ≡ names_flaws (walk_outside b.env) [] (exprs_of X) = q ∙ ap (λ (gs : List code.Flaw). map flaw_view gs ++ names_flaws (walk_outside b.env) [] (exprs_of X)) z in
+    let names : ss ≡ spots_of (walk_outside b.env) X = h ∙ ap (λ (w : go.Walk). spots_of w X) (outside_grown b.env c.env s.grows) in
+    let values : rs ≡ raws_of (names_of b.env) (scopes_of b.env) Y = raws_grown b.env c.env rs Y s.grows r in
+    does_made (undeclared at (exprs_of X) (exprs_of Y)) f a d (parts_flaws (flaw p 83) (map flaw_view g1) ss rs) [] f0 f2 out out (moves_on f (λ w. w) a b d m (moves_stays b d (stays_on b c d s k)))
+    (record { told = sides_said (flaw p 83) (map flaw_view g1) ss rs f0 f1 f2 typed y t u; core = λ ts l. sym (append-nil (map (stmt_view ts) out)) })
+    (λ ts. ap (λ (gs : List Flaw). made [] gs (f (walk_of ts a))) (undeclared_said at p X Y a b.env (map flaw_view g1) ss rs ts v fs names values x))

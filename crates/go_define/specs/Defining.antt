@@ -1,5 +1,5 @@
 -- Own: what comes of names on the left of `:=` and values that are typed, name by name.
-use Rattle.std.specs.Prelude.{◌≡◌, List, [], ◌∷◌, ◌++◌, Bool, true, false, Option, Some, None, map, if◌then◌else◌}
+use Rattle.std.specs.Prelude.{◌≡◌, List, [], ◌∷◌, ◌++◌, Bool, true, false, ◌&&◌, Option, Some, None, map, if◌then◌else◌}
 use Rattle.gj_base.specs.declared.place.Place.{Place}
 use Rattle.go_type.specs.Tree.{Ty, Tys, no_tys, more_tys}
 use Rattle.go_type.specs.Named.{NamedTy}
@@ -22,7 +22,7 @@ use Rattle.go_walk.specs.declared.walk.Walk.{Walk}
 use Rattle.go_typed.specs.Raw.{Raw}
 use Rattle.go_valued.specs.Settled.{alone, all_known, all_told}
 use Rattle.go_assign.specs.LeftView.{fitted}
-use Rattle.go_define.specs.FreshView.{Spot, new_spot, old_spot, blank_spot, other_spot}
+use Rattle.go_define.specs.FreshView.{Spot, new_spot, old_spot, blank_spot, other_spot, spots_typed}
 
 -- ---- one name
 
@@ -126,9 +126,22 @@ abbrev pub unknowns : List Spot → go.Walk → go.Walk
 unknowns [] u = u
 unknowns (s ∷ ss) u = unknowns ss (spot_walk s None u)
 
+-- what is told of names that can't be assigned
+abbrev pub spot_flaws : Spot → List Flaw
+spot_flaws (old_spot l) = left_flaws l
+spot_flaws _ = []
+
+abbrev pub spots_flaws : List Spot → List Flaw
+spots_flaws [] = []
+spots_flaws (s ∷ ss) = spot_flaws s ++ spots_flaws ss
+
+-- a fault of the statement, told where its sides are typed, with what is told of these; fs: of the names
+abbrev pub parts_flaws : Flaw → List Flaw → List Spot → List Raw → List Flaw
+parts_flaws f fs ss rs = where_typed (spots_typed ss && all_known rs) (all_told rs ++ fs) (f ∷ []) ++ spots_flaws ss
+
 -- the counts differ (84)
 abbrev pub not_defined : Place → List Flaw → List Spot → List Raw → go.Walk → Did
-not_defined at fs ss rs u = faulty (where_typed (all_known rs) (all_told rs ++ fs) (flaw at 84 ∷ [])) (unknowns ss u)
+not_defined at fs ss rs u = faulty (parts_flaws (flaw at 84) fs ss rs) (unknowns ss u)
 
 abbrev pub as_many_values : List Spot → List Raw → Bool
 as_many_values [] [] = true

@@ -1,11 +1,11 @@
 -- What a name on the left of `:=` is, in code.
-use Rattle.std.specs.Prelude.{ℕ, ◌<◌, List, [], ◌∷◌, Bool, true, false, Option, Some, None, map, if◌then◌else◌}
+use Rattle.std.specs.Prelude.{ℕ, ◌<◌, List, [], ◌∷◌, Bool, true, false, ◌&&◌, Option, Some, None, map, if◌then◌else◌}
 use Rattle.std.specs.List.{AllByRecursion}
 use Rattle.go_syntax.specs.Tree as t
 use Rattle.go_syntax.specs.declared.tree.Name.{Name}
 use Rattle.go_type.specs.Tree.{Ty}
 use Rattle.go_statements.specs.Walk.{Walk}
-use Rattle.go_statements.specs.Assign.{Left, left_of, Fresh, new_name, old_name, blank_name, no_name, fresh_of}
+use Rattle.go_statements.specs.Assign.{Left, left_of, is_left, Fresh, new_name, old_name, blank_name, no_name, fresh_of}
 use Rattle.go_assign.specs.LeftView.{left_view, LeftBelow}
 use Rattle.go_define.specs.declared.fresh.Fresh as code
 use Rattle.go_define.specs.declared.fresh.Fresh.TheVariants as fresh
@@ -67,3 +67,13 @@ is_new_spot _ = false
 abbrev pub any_new_spot : List Spot → Bool
 any_new_spot [] = false
 any_new_spot (s ∷ ss) = if is_new_spot s then true else any_new_spot ss
+
+-- typed where it declares a name, or can be assigned
+abbrev pub spot_typed : Spot → Bool
+spot_typed (old_spot l) = is_left l
+spot_typed other_spot = false
+spot_typed _ = true
+
+abbrev pub spots_typed : List Spot → Bool
+spots_typed [] = true
+spots_typed (s ∷ ss) = spot_typed s && spots_typed ss

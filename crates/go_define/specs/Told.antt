@@ -10,7 +10,7 @@ use Rattle.go_typing.specs.Typing.{place_of}
 use Rattle.go_statements.specs.Walk.{Walk}
 use Rattle.go_statements.specs.Assign.{no_name_flaws, names_flaws, first_place}
 use Rattle.go_typed.specs.Raw.{Raw}
-use Rattle.go_define.specs.FreshView.{Spot, plain_name, any_new_spot}
+use Rattle.go_define.specs.FreshView.{Spot, plain_name, any_new_spot, spots_typed}
 
 -- ---- one on the left
 
@@ -49,9 +49,9 @@ all_fine (r ∷ rs) = is_fine r && all_fine rs
 
 -- ---- all of them
 
--- none is new, which is told where the values are fine
+-- none is new, which is told where each of them is typed and the values are fine
 abbrev pub new_told : Place → List t.Expr → List Spot → List Raw → List Flaw
-new_told at xs ss rs = if any_new_spot ss then [] else (if all_fine rs then flaw (first_place (exprs_of xs) at) 83 ∷ [] else [])
+new_told at xs ss rs = if any_new_spot ss then [] else (if spots_typed ss && all_fine rs then flaw (first_place (exprs_of xs) at) 83 ∷ [] else [])
 
 -- all that is told of the names
 abbrev pub names_told : Walk → Place → List t.Expr → List Spot → List Raw → List Flaw

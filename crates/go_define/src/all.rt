@@ -2,7 +2,7 @@
 //!
 //! Go, "Short variable declarations".
 
-ghost use Rattle.std.specs.Prelude.{◌≡◌, ◌<◌, ◌++◌, ◌∷◌, [], None, Some, OnOk, IfOk, IfSome, List, map, option_map};
+ghost use Rattle.std.specs.Prelude.{◌≡◌, ◌<◌, ◌++◌, ◌&&◌, ◌∷◌, [], None, Some, OnOk, IfOk, IfSome, List, map, option_map};
 ghost use Rattle.go_type.specs.Tree.{Ty};
 ghost use Rattle.go_type.specs.Levels.{trees_of, IdsBelow};
 ghost use Rattle.go_type.specs.Table.{size};
@@ -21,10 +21,10 @@ ghost use Rattle.go_typed.specs.Raw.{raw_view, raws_view, RawsBelow};
 ghost use Rattle.go_valued.specs.Outcome.{Does};
 ghost use Rattle.go_effects.specs.Moves.{Moves};
 ghost use Rattle.go_define.specs.FreshView.{freshes_view, FreshesBelow};
-ghost use Rattle.go_define.specs.Defining.{Defines, value_takes, value_cores, type_takes, defined, unknowns, not_defined, defined_by};
+ghost use Rattle.go_define.specs.Defining.{Defines, value_takes, value_cores, type_takes, defined, unknowns, spots_flaws, not_defined, defined_by};
 
-use crate::fresh::{Freshes, next_fresh};
-use crate::one::{define_one, type_one, unknown_one};
+use crate::fresh::{Freshes, both_typed, names_typed, next_fresh};
+use crate::one::{define_one, fresh_told, type_one, unknown_one};
 use gj_base::{NoMemory, Place};
 use go_answers::answer::Flaw;
 use go_core::node::CoreExpr;
@@ -223,14 +223,24 @@ fn define_types(
 
 // ---- a wrong count (84)
 
-fn parts_told(flaws: &mut Vec<Flaw>, at: Place, raws: Raws, fs: Vec<Flaw>) -> Result<(), NoMemory>
-    ensures told { OnOk result ((ts : List Ty) → map flaw_view flaws.new.items ≡ map flaw_view flaws.old.items ++ where_typed (all_known (raws_view ts raws)) (all_told (raws_view ts raws) ++ map flaw_view fs.items) (flaw at 84 ∷ [])) }
+/// A fault of the statement is told where the names, of which it is known, and the values are typed, else
+/// what is told of these.
+pub fn parts_told(
+    flaws: &mut Vec<Flaw>,
+    at: Place,
+    code: u16,
+    typed: bool,
+    raws: Raws,
+    fs: Vec<Flaw>,
+) -> Result<(), NoMemory>
+    ensures told { OnOk result ((ts : List Ty) → map flaw_view flaws.new.items ≡ map flaw_view flaws.old.items ++ where_typed (typed && all_known (raws_view ts raws)) (all_told (raws_view ts raws) ++ map flaw_view fs.items) (flaw at code ∷ [])) }
 {
-    let known = all_known(&raws);
+    let values = all_known(&raws);
+    let known = both_typed(typed, values);
     let mut parts = Vec::new(*flaws.allocator());
     match move_all(&mut parts, raws) {
         Ok(()) => match move_flaws(&mut parts, fs) {
-            Ok(()) => match told_where_typed(flaws, known, parts, at, 84) {
+            Ok(()) => match told_where_typed(flaws, known, parts, at, code) {
                 Ok(()) => Ok(()),
                 Err(error) => Err(error),
             },
@@ -240,16 +250,31 @@ fn parts_told(flaws: &mut Vec<Flaw>, at: Place, raws: Raws, fs: Vec<Flaw>) -> Re
     }
 }
 
+/// What is told of names that can't be assigned.
+#[tactic(auto, using(crate::proofs::AllLemmas::olds_step, crate::proofs::AllLemmas::old_end))]
+pub fn olds_told(env: &Env, freshes: Freshes, flaws: &mut Vec<Flaw>) -> Result<(), NoMemory>
+    requires freshes { FreshesBelow (size (table_of env.now)) freshes }
+    ensures told { OnOk result (map flaw_view flaws.new.items ≡ map flaw_view flaws.old.items ++ spots_flaws (freshes_view (types_of env.now) freshes)) }
+{
+    let mut freshes = freshes;
+    while let Some(fresh) = next_fresh(env, &mut freshes) {
+        fresh_told(fresh, flaws)?;
+    }
+    Ok(())
+}
+
 // No value is known for the names.
-#[tactic(auto, using(crate::proofs::AllLemmas::unknowns_end))]
-fn unknown_each(walk: &mut Walk, freshes: Freshes) -> Result<(), NoMemory>
+#[tactic(auto, using(crate::proofs::AllLemmas::unknowns_end, crate::proofs::AllLemmas::old_end))]
+fn unknown_each(walk: &mut Walk, freshes: Freshes, flaws: &mut Vec<Flaw>) -> Result<(), NoMemory>
     requires depth { 0 < depth walk.old }
     requires freshes { FreshesBelow (size (table_of walk.old.env)) freshes }
     ensures moves { OnOk result (Moves (unknowns (freshes_view (types_of walk.old.env) freshes)) walk.old walk.new) }
+    ensures told { OnOk result (map flaw_view flaws.new.items ≡ map flaw_view flaws.old.items ++ spots_flaws (freshes_view (types_of walk.old.env) freshes)) }
 {
     let mut freshes = freshes;
     while let Some(fresh) = next_fresh(&walk.env, &mut freshes) {
         unknown_one(walk, &fresh)?;
+        fresh_told(fresh, flaws)?;
     }
     Ok(())
 }
@@ -267,8 +292,9 @@ fn define_not(
     requires freshes { FreshesBelow (size (table_of walk.old.env)) freshes }
     ensures does { OnOk result ((out : List statement.CoreStmt) → Does (not_defined at (map flaw_view fs.items) (freshes_view (types_of walk.old.env) freshes) (raws_view (types_of walk.old.env) raws)) walk.old walk.new flaws.old.items flaws.new.items out out) }
 {
-    match parts_told(flaws, at, raws, fs) {
-        Ok(()) => match unknown_each(walk, freshes) {
+    let typed = names_typed(&freshes);
+    match parts_told(flaws, at, 84, typed, raws, fs) {
+        Ok(()) => match unknown_each(walk, freshes, flaws) {
             Ok(()) => Ok(()),
             Err(error) => Err(error),
         },

@@ -2,7 +2,7 @@
 //!
 //! Go, "Short variable declarations".
 
-ghost use Rattle.std.specs.Prelude.{◌≡◌, ◌<◌, ◌∷◌, ◌+◌, [], Some, false, List, OnOk, IfOk, IfSome, MatchOption, length, map, option_map};
+ghost use Rattle.std.specs.Prelude.{◌≡◌, ◌<◌, ◌∷◌, ◌+◌, ◌&&◌, [], Some, false, List, OnOk, IfOk, IfSome, MatchOption, length, map, option_map};
 ghost use Rattle.go_type.specs.Tree.{Ty};
 ghost use Rattle.go_type.specs.Table.{size};
 ghost use Rattle.go_syntax.specs.View.{expr_view};
@@ -13,10 +13,10 @@ ghost use Rattle.go_statements.specs.Walk.{is_there};
 ghost use Rattle.go_statements.specs.Assign as go;
 ghost use Rattle.go_walk.specs.WalkView.{walk_outside, depth};
 ghost use Rattle.go_effects.specs.Moves.{Stays};
-ghost use Rattle.go_define.specs.FreshView.{old_spot, spot_of, spots_of, fresh_view, freshes_view, FreshBelow, FreshesBelow, plain_name, is_new_spot, any_new_spot};
+ghost use Rattle.go_define.specs.FreshView.{old_spot, spot_of, spots_of, fresh_view, freshes_view, FreshBelow, FreshesBelow, plain_name, is_new_spot, any_new_spot, spot_typed, spots_typed};
 
 use gj_base::{NoMemory, Place, Text};
-use go_assign::left::{Left, left_of};
+use go_assign::left::{Left, is_left, left_of};
 use go_effects::place_in;
 use go_labels::blank::is_blank;
 use go_scopes::Env;
@@ -213,4 +213,36 @@ pub fn any_new(freshes: &Freshes) -> bool
         }
     }
     false
+}
+
+/// Whether both the names and the values are typed.
+pub fn both_typed(names: bool, values: bool) -> bool
+    ensures value { result ≡ (names && values) }
+{
+    names && values
+}
+
+// Whether it declares a name, or can be assigned.
+fn is_typed(fresh: &Fresh) -> bool
+    ensures value { (ts : List Ty) → result ≡ spot_typed (fresh_view ts fresh.now) }
+{
+    match fresh {
+        Fresh::New(_) => true,
+        Fresh::Old(left) => is_left(left),
+        Fresh::Blank => true,
+        Fresh::Other => false,
+    }
+}
+
+/// Whether each of them declares a name, or can be assigned.
+#[tactic(auto, using(crate::proofs::FreshLemmas::typed_step, crate::proofs::FreshLemmas::typed_stop, crate::proofs::FreshLemmas::typed_end))]
+pub fn names_typed(freshes: &Freshes) -> bool
+    ensures value { (ts : List Ty) → result ≡ spots_typed (freshes_view ts freshes.now) }
+{
+    for fresh in &freshes.items {
+        if !is_typed(fresh) {
+            return false;
+        }
+    }
+    true
 }

@@ -10,4 +10,4 @@ pub mod names;
 pub mod one;
 pub mod top;
 
-pub use top::define;
+pub use top::{define, undeclared};

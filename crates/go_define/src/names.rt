@@ -18,7 +18,7 @@ ghost use Rattle.go_define.specs.FreshView.{freshes_view, plain_name};
 ghost use Rattle.go_define.specs.Told.{twice_told, no_name_told, name_told, seen_with, new_told};
 
 use crate::fine::all_fine;
-use crate::fresh::{Freshes, any_new, plain_name};
+use crate::fresh::{Freshes, any_new, both_typed, names_typed, plain_name};
 use gj_base::{NoMemory, Place, Text};
 use go_answers::answer::Flaw;
 use go_answers::rule::{and_flaw, is_known};
@@ -146,9 +146,9 @@ pub fn each_told(walk: &mut Walk, flaws: &mut Vec<Flaw>, xs: &[Expr]) -> Result<
     Ok(())
 }
 
-// Where the first of them stands.
+/// Where the first of them stands, or the place of their statement.
 #[tactic(auto, using(crate::proofs::NameLemmas::first_none, crate::proofs::NameLemmas::first_some))]
-fn first_in(xs: &[Expr], at: Place) -> Place
+pub fn first_in(xs: &[Expr], at: Place) -> Place
     ensures value { result ≡ go.first_place (exprs_of (map expr_view xs.now)) at }
 {
     if xs.len() == 0 {
@@ -157,7 +157,7 @@ fn first_in(xs: &[Expr], at: Place) -> Place
     place_in(&xs[0])
 }
 
-// That none of them is new (83), unless a value has faults of its own.
+// That none of them is new (83), unless one of them or a value isn't typed.
 #[tactic(auto, using(crate::proofs::NameLemmas::told_none))]
 fn told_new(flaws: &mut Vec<Flaw>, found: bool, fine: bool, at: Place) -> Result<(), NoMemory>
     ensures told { OnOk result (map flaw_view flaws.new.items ≡ map flaw_view flaws.old.items ++ (if found then [] else (if fine then flaw at 83 ∷ [] else []))) }
@@ -171,7 +171,8 @@ fn told_new(flaws: &mut Vec<Flaw>, found: bool, fine: bool, at: Place) -> Result
     }
 }
 
-/// That none of the names is new (83), where all values are typed and nothing is told of them.
+/// That none of the names is new (83), where all of them and the values are typed and nothing is told of
+/// these.
 pub fn none_told(
     env: &Env,
     at: Place,
@@ -184,7 +185,9 @@ pub fn none_told(
 {
     let _ = env;
     let found = any_new(freshes);
-    let fine = all_fine(raws);
+    let typed = names_typed(freshes);
+    let values = all_fine(raws);
+    let fine = both_typed(typed, values);
     match told_new(flaws, found, fine, first_in(xs, at)) {
         Ok(()) => Ok(()),
         Err(error) => Err(error),

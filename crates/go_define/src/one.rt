@@ -20,7 +20,7 @@ ghost use Rattle.go_valued.specs.Settled.{valued_view, alone};
 ghost use Rattle.go_effects.specs.Moves.{Moves};
 ghost use Rattle.go_assign.specs.LeftView.{left_view, LeftBelow};
 ghost use Rattle.go_define.specs.FreshView.{new_spot, old_spot, fresh_view, FreshBelow};
-ghost use Rattle.go_define.specs.Defining.{spot_stmts, spot_target, spot_walk, spot_valued, type_flaws};
+ghost use Rattle.go_define.specs.Defining.{spot_stmts, spot_target, spot_walk, spot_valued, spot_flaws, type_flaws};
 
 use crate::fresh::Fresh;
 use gj_base::{NoMemory, Place};
@@ -354,6 +354,19 @@ pub fn unknown_one(walk: &mut Walk, fresh: &Fresh) -> Result<(), NoMemory>
             Err(error) => Err(error),
         },
         Fresh::Old(_) => Ok(()),
+        Fresh::Blank => Ok(()),
+        Fresh::Other => Ok(()),
+    }
+}
+
+/// What is told of a name that its scope has.
+#[tactic(auto, using(crate::proofs::NameLemmas::told_none))]
+pub fn fresh_told(fresh: Fresh, flaws: &mut Vec<Flaw>) -> Result<(), NoMemory>
+    ensures told { OnOk result ((ts : List Ty) → map flaw_view flaws.new.items ≡ map flaw_view flaws.old.items ++ spot_flaws (fresh_view ts fresh)) }
+{
+    match fresh {
+        Fresh::Old(left) => left_told(left, flaws),
+        Fresh::New(_) => Ok(()),
         Fresh::Blank => Ok(()),
         Fresh::Other => Ok(()),
     }

@@ -1,9 +1,10 @@
-//! `xs := ys`.
+//! `xs := ys`, and where it may not stand.
 //!
 //! Go, "Short variable declarations".
 
-ghost use Rattle.std.specs.Prelude.{◌≡◌, ◌<◌, OnOk, IfOk, map};
+ghost use Rattle.std.specs.Prelude.{◌≡◌, ◌<◌, List, OnOk, IfOk, map};
 ghost use Rattle.go_type.specs.Table.{size};
+ghost use Rattle.go_core.specs.declared.statement.CoreStmt as statement;
 ghost use Rattle.go_syntax.specs.View.{expr_view, exprs_of};
 ghost use Rattle.go_scopes.specs.EnvView.{table_of};
 ghost use Rattle.go_callee.specs.Words.{types_of, names_of, scopes_of};
@@ -15,9 +16,9 @@ ghost use Rattle.go_valued.specs.Outcome.{Does};
 ghost use Rattle.go_effects.specs.Moves.{Moves, Stays};
 ghost use Rattle.go_define.specs.FreshView.{spots_of, freshes_view, FreshesBelow};
 
-use crate::all::all_defined;
-use crate::fresh::{Freshes, freshes_in};
-use crate::names::{each_told, none_told};
+use crate::all::{all_defined, olds_told, parts_told};
+use crate::fresh::{Freshes, freshes_in, names_typed};
+use crate::names::{each_told, first_in, none_told};
 use gj_base::{NoMemory, Place};
 use go_answers::answer::Flaw;
 use go_assign::uses::left_uses;
@@ -89,6 +90,39 @@ pub fn define(
                     gone_raws(raws);
                     Err(error)
                 }
+            }
+        }
+        Err(error) => Err(error),
+    }
+}
+
+/// A short declaration where none may stand (83): its names are declared nowhere.
+///
+/// Go, "For statements": the statement after a turn is no short variable declaration.
+#[tactic(auto, using(crate::proofs::TopLemmas::depth_env, crate::proofs::TopLemmas::depth_later))]
+pub fn undeclared(
+    walk: &mut Walk,
+    flaws: &mut Vec<Flaw>,
+    at: Place,
+    xs: &[Expr],
+    ys: &[Expr],
+) -> Result<(), NoMemory>
+    requires depth { 0 < depth walk.old }
+    ensures does { OnOk result ((out : List statement.CoreStmt) → Does (go.undeclared at (exprs_of (map expr_view xs.now)) (exprs_of (map expr_view ys.now))) walk.old walk.new flaws.old.items flaws.new.items out out) }
+{
+    let mut fs = Vec::new(*flaws.allocator());
+    both_used(walk, xs, ys)?;
+    each_told(walk, &mut fs, xs)?;
+    match sides(walk, xs, ys) {
+        Ok(parts) => {
+            let (freshes, raws) = parts;
+            let typed = names_typed(&freshes);
+            match parts_told(flaws, first_in(xs, at), 83, typed, raws, fs) {
+                Ok(()) => match olds_told(&walk.env, freshes, flaws) {
+                    Ok(()) => Ok(()),
+                    Err(error) => Err(error),
+                },
+                Err(error) => Err(error),
             }
         }
         Err(error) => Err(error),

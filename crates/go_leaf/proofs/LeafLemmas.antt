@@ -145,45 +145,6 @@ passes_none a = record { walk = λ ts. refl; env = refl; kept = λ i l. refl; co
 
 -- ---- a short declaration after a turn
 
-typed_all : (w : go.Walk) (ys : List t.Expr) → all_typed w (exprs_of ys) ≡ all_known (raws_of w.names w.scopes ys)
-typed_all w [] = refl
-typed_all w (y ∷ ys) = ap (λ (b : Bool). is_known (answer_in w y) && b) (typed_all w ys)
-
-told_all : (w : go.Walk) (ys : List t.Expr) → all_in_flaws w (exprs_of ys) ≡ all_told (raws_of w.names w.scopes ys)
-told_all w [] = refl
-told_all w (y ∷ ys) = ap (λ (fs : List typing.Flaw). flaws_in w y ++ fs) (told_all w ys)
-
-pub undeclared_does : (at p : Place) (xs ys : List t.Expr) (rs : List Raw) (a m b : Walk) (f0 f1 : List Flaw) (post : go.Walk → Did) (o : List CoreStmt) → p ≡ first_place (exprs_of xs) at → Moves (left_uses (exprs_of xs)) a m → m.env ≡ a.env → rs ≡ raws_of (names_of m.env) (scopes_of m.env) ys
-    → Passes (uses_all (exprs_of ys)) m b → map flaw_view f1 ≡ map flaw_view f0 ++ unless_told p 83 rs → Does (post_did (t.AStmt (t.DefineStmt at (exprs_of xs) (exprs_of ys))) post) a b f0 f1 o o
-undeclared_does at p xs ys rs a m b f0 f1 post o q k e r g h = record {
-  told = λ ts l. h ∙ sym (ap (λ (fs : List typing.Flaw). map flaw_view f0 ++ fs) (is ts));
-  core = λ ts l. sym (append-nil (map (views.stmt_view ts) o));
-  walk = λ ts l. g.walk ts ∙ ap (uses_all (exprs_of ys)) (k.walk ts (back ts l));
-  depth = ap (λ (v : scopes.Env). length v.blocks) g.env ∙ k.depth;
-  kept = λ i l. g.kept i (below i l) ∙ k.kept i l;
-  counts = let u = k.counts in let v = g.counts in omega (arith, u, v);
-}
-  where
-    is : (ts : List Ty) → where_typed (all_typed (walk_of ts a) (exprs_of ys)) (all_in_flaws (walk_of ts a) (exprs_of ys)) (flaw (first_place (exprs_of xs) at) 83 ∷ []) ≡ unless_told p 83 rs
-    is ts = (λ j. where_typed (typed_all (walk_of ts a) ys j) (told_all (walk_of ts a) ys j) (flaw (sym q j) 83 ∷ [])) ∙ ap (unless_told p 83) (sym (r ∙ ap (λ (v : Env). raws_of (names_of v) (scopes_of v) ys) e))
-
-    below : (i : TypeId) → i.0 < size (table_of a.env) → i.0 < size (table_of m.env)
-    below i l = let u = k.counts in omega (arith, u, l)
-
-    on : (i : TypeId) → i.0 < size (table_of m.env) → i.0 < size (table_of b.env)
-    on i l = let u = g.counts in omega (arith, u, l)
-
-    back : (ts : List Ty) → Keeps (table_of b.env) ts → Keeps (table_of m.env) ts
-    back ts l = λ i d. l i (on i d) ∙ g.kept i d
-
-pub first_none : (xs : List Expr) (at : Place) → length xs ≡ 0 → at ≡ first_place (exprs_of (map expr_view xs)) at
-first_none [] at h = refl
-first_none (x ∷ xs) at h = absurd (omega (arith, h))
-
-pub first_some : (xs : List Expr) (x : Expr) (at p : Place) → (length xs ≡ 0 → ⊥) → x ≡ get_or xs 0 x → p ≡ place_of (expr_view x) → p ≡ first_place (exprs_of (map expr_view xs)) at
-first_some [] x at p h q k = absurd (h refl)
-first_some (y ∷ xs) x at p h q k = k ∙ ap (λ (e : Expr). place_of (expr_view e)) q
-
 pub define_whole : (s : t.Stmt) (at : Place) (xs ys us vs : List Expr) (post : go.Walk → Did) (a b : Walk) (f0 f1 : List Flaw) (o : List CoreStmt) → s ≡ t.DefineStmt at (exprs_of (map expr_view us)) (exprs_of (map expr_view vs)) → xs ≡ us → ys ≡ vs
     → Does (post_did (t.AStmt (t.DefineStmt at (exprs_of (map expr_view xs)) (exprs_of (map expr_view ys)))) post) a b f0 f1 o o → Does (post_did (t.AStmt s) post) a b f0 f1 o o
 define_whole s at xs ys us vs post a b f0 f1 o p q r h =

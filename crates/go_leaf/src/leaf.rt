@@ -1,10 +1,10 @@
 //! What stands before or after the statements within a statement.
 
-ghost use Rattle.std.specs.Prelude.{◌≡◌, ◌==◌, ◌&&◌, not, ◌++◌, ◌∷◌, [], nat_lt, if◌then◌else◌, length, true, OnOk, IfOk, List, map, option_map};
+ghost use Rattle.std.specs.Prelude.{◌≡◌, ◌<◌, ◌==◌, ◌&&◌, not, ◌++◌, ◌∷◌, [], nat_lt, if◌then◌else◌, length, true, OnOk, IfOk, List, map, option_map};
 ghost use Rattle.go_type.specs.Tree.{Ty};
 ghost use Rattle.go_core.specs.CoreView.{expr_view as core_view, bound_of};
 ghost use Rattle.go_core.specs.declared.statement.CoreStmt as statement;
-ghost use Rattle.go_syntax.specs.View.{expr_view, exprs_of, maybe_expr, stmt_view, stmts_of};
+ghost use Rattle.go_syntax.specs.View.{expr_view, maybe_expr, stmt_view, stmts_of};
 ghost use Rattle.go_syntax.specs.Tree as t;
 ghost use Rattle.go_scopes.specs.EnvView.{table_of};
 ghost use Rattle.go_typing.specs.Answer.{flaw};
@@ -13,11 +13,10 @@ ghost use Rattle.go_callee.specs.Words.{types_of};
 ghost use Rattle.go_statements.specs.Walk as walks;
 ghost use Rattle.go_statements.specs.Walk.{Did, uses};
 ghost use Rattle.go_statements.specs.Expressions as go;
-ghost use Rattle.go_statements.specs.Assign.{first_place};
 ghost use Rattle.go_statements.specs.Labels as labels;
 ghost use Rattle.go_statements.specs.Statements as statements;
 ghost use Rattle.go_statements.specs.Statements.{condition_core, condition_told, clauses_limit, condition_uses, default_flaws, post_did};
-ghost use Rattle.go_walk.specs.WalkView.{walk_of, Keeps};
+ghost use Rattle.go_walk.specs.WalkView.{walk_of, depth, Keeps};
 ghost use Rattle.go_valued.specs.Taken.{StandsFor};
 ghost use Rattle.go_valued.specs.Outcome.{Does};
 ghost use Rattle.go_branch.specs.Passed.{Passes};
@@ -26,10 +25,8 @@ ghost use Rattle.go_leaf.specs.Forms.{is_define, is_fallthrough};
 use gj_base::{NoMemory, Place, Text};
 use go_answers::answer::Flaw;
 use go_answers::rule::and_flaw;
-use go_assign::uses::left_uses;
-use go_branch::used::{fault_where_typed, raws_used};
 use go_core::node::CoreExpr;
-use go_effects::place_in;
+use go_define::undeclared;
 use go_labels::blank::is_blank;
 use go_nodes::gone::gone_expr;
 use go_syntax::tree::{Expr, Name, Stmt, StmtForm};
@@ -223,40 +220,10 @@ pub fn is_define(s: &Stmt) -> bool
     }
 }
 
-// Where the first of these stands, or the place of their statement.
-#[tactic(auto, using(crate::proofs::LeafLemmas::first_none, crate::proofs::LeafLemmas::first_some))]
-fn first_of(at: Place, xs: &[Expr]) -> Place
-    ensures value { result ≡ first_place (exprs_of (map expr_view xs.now)) at }
-{
-    if xs.len() == 0 {
-        return at;
-    }
-    place_in(&xs[0])
-}
-
-// No names are declared: the values alone are typed (83).
-fn undeclared(
-    walk: &mut Walk,
-    flaws: &mut Vec<Flaw>,
-    at: Place,
-    xs: &[Expr],
-    ys: &[Expr],
-) -> Result<(), NoMemory>
-    ensures does { OnOk result ((post : walks.Walk → Did) → (out : List statement.CoreStmt) → Does (post_did (t.AStmt (t.DefineStmt at (exprs_of (map expr_view xs.now)) (exprs_of (map expr_view ys.now)))) post) walk.old walk.new flaws.old.items flaws.new.items out out) }
-{
-    left_uses(walk, xs)?;
-    match raws_used(walk, ys) {
-        Ok(raws) => {
-            fault_where_typed(flaws, first_of(at, xs), 83, raws)?;
-            Ok(())
-        }
-        Err(error) => Err(error),
-    }
-}
-
 /// A short declaration is no statement after a turn.
 #[tactic(auto, using(crate::proofs::ViewLemmas::view_Define, crate::proofs::LeafLemmas::define_whole))]
 pub fn told_define(walk: &mut Walk, flaws: &mut Vec<Flaw>, s: &Stmt) -> Result<(), NoMemory>
+    requires depth { 0 < depth walk.old }
     requires define { is_define (stmt_view s.now) ≡ true }
     ensures does { OnOk result ((post : walks.Walk → Did) → (out : List statement.CoreStmt) → Does (post_did (t.AStmt (stmt_view s.now)) post) walk.old walk.new flaws.old.items flaws.new.items out out) }
 {

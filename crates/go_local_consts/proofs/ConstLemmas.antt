@@ -15,7 +15,7 @@ use Rattle.go_type.specs.declared.table.TypeTable.{TypeTable}
 use Rattle.go_core.specs.CoreView.{stmt_view}
 use Rattle.go_core.specs.declared.statement.CoreStmt.{CoreStmt}
 use Rattle.go_typing.specs.Answer as typing
-use Rattle.go_typing.specs.Answer.{flaw, Answer, value, pending, type_, package_, built_in, blank, does, wrong, untyped_part}
+use Rattle.go_typing.specs.Answer.{Answer, value, pending, type_, package_, built_in, blank, does, wrong, untyped_part}
 use Rattle.go_typing.specs.Convert.{is_scalar}
 use Rattle.go_typing.specs.Env.{Decl, constant, unknown}
 use Rattle.go_scopes.specs.EnvView.{table_of}
@@ -24,8 +24,7 @@ use Rattle.go_answers.specs.declared.answer.Flaw.{Flaw}
 use Rattle.go_statements.specs.Walk as go
 use Rattle.go_statements.specs.Walk.{Did, faulty, also, is_there, redeclared, with_name}
 use Rattle.go_statements.specs.Expressions.{Valued, type_of, constant_of}
-use Rattle.go_statements.specs.Assign.{where_typed}
-use Rattle.go_statements.specs.Declare.{SpecType, of_type, constant_decl, declare_constant, const_unknown, spec_place}
+use Rattle.go_statements.specs.Declare.{SpecType, of_type, constant_decl, declare_constant, const_unknown, spec_place, count_told}
 use Rattle.go_walk.specs.WalkView.{walk_of, depth}
 use Rattle.go_walk.specs.declared.walk.Walk.{Walk}
 use Rattle.go_typed.specs.declared.raw.Raw as code
@@ -168,25 +167,25 @@ chosen d e c a b f0 f1 o0 o1 p h = subst (λ (x : Bool). Does (choice d e x) a b
 passed_over : (d e : go.Walk → Did) (c : Bool) (a b : Walk) (f0 f1 : List Flaw) (o0 o1 : List CoreStmt) → c ≡ false → Does e a b f0 f1 o0 o1 → Does (choice d e c) a b f0 f1 o0 o1
 passed_over d e c a b f0 f1 o0 o1 p h = subst (λ (x : Bool). Does (choice d e x) a b f0 f1 o0 o1) (sym p) h
 
-abbrev miscount : Place → List Name → List Raw → go.Walk → Did
-miscount at names rs w = also (where_typed (all_known rs) (all_told rs) (flaw (spec_place names at) 84 ∷ [])) (const_unknown names w)
+abbrev miscount : Place → SpecType → List Name → List Raw → go.Walk → Did
+miscount at s names rs w = also (count_told s (spec_place names at) (all_known rs) (all_told rs)) (const_unknown names w)
 
 pub given_does : (ns : List NamedTy) (at : Place) (s : SpecType) (names : List Name) (ts : List Ty) (rs : List code.Raw) (a b : Walk) (f0 f1 : List Flaw) (out : List CoreStmt) → length rs ≡ length names → Does (const_raws ns s names (raws_after ts rs [])) a b f0 f1 out out
     → Does (const_given ns at s names (raws_after ts rs [])) a b f0 f1 out out
 given_does ns at s names ts rs a b f0 f1 out l h =
     let qs = raws_after ts rs [] in
-    chosen (const_raws ns s names qs) (miscount at names qs) (same_count names qs) a b f0 f1 out out (same_values names qs (counted ts rs ∙ l)) h
+    chosen (const_raws ns s names qs) (miscount at s names qs) (same_count names qs) a b f0 f1 out out (same_values names qs (counted ts rs ∙ l)) h
 
 pub miscounted_does : (ns : List NamedTy) (at p : Place) (s : SpecType) (names : List Name) (ts : List Ty) (rs : List code.Raw) (a b : Walk) (f0 f1 f2 : List Flaw) (out : List CoreStmt) → length rs ≢ length names → p ≡ spec_place names at
-    → map flaw_view f1 ≡ map flaw_view f0 ++ where_typed (all_known (raws_after ts rs [])) (all_told (raws_after ts rs [])) (flaw p 84 ∷ []) → Does (const_unknown names) a b f1 f2 out out → Does (const_given ns at s names (raws_after ts rs [])) a b f0 f2 out out
+    → map flaw_view f1 ≡ map flaw_view f0 ++ count_told s p (all_known (raws_after ts rs [])) (all_told (raws_after ts rs [])) → Does (const_unknown names) a b f1 f2 out out → Does (const_given ns at s names (raws_after ts rs [])) a b f0 f2 out out
 miscounted_does ns at p s names ts rs a b f0 f1 f2 out l q t h =
     let qs = raws_after ts rs [] in
-    let told : map flaw_view f1 ≡ map flaw_view f0 ++ where_typed (all_known qs) (all_told qs) (flaw (spec_place names at) 84 ∷ []) = t ∙ ap (λ (x : Place). map flaw_view f0 ++ where_typed (all_known qs) (all_told qs) (flaw x 84 ∷ [])) q in
-    passed_over (const_raws ns s names qs) (miscount at names qs) (same_count names qs) a b f0 f2 out out (other_values names qs (λ e. l (sym (counted ts rs) ∙ e)))
+    let told : map flaw_view f1 ≡ map flaw_view f0 ++ count_told s (spec_place names at) (all_known qs) (all_told qs) = t ∙ ap (λ (x : Place). map flaw_view f0 ++ count_told s x (all_known qs) (all_told qs)) q in
+    passed_over (const_raws ns s names qs) (miscount at s names qs) (same_count names qs) a b f0 f2 out out (other_values names qs (λ e. l (sym (counted ts rs) ∙ e)))
     (record {
       told = λ us k.
           let d = const_unknown names (walk_of us a) in
-          h.told us k ∙ ap (λ (fs : List typing.Flaw). fs ++ d.flaws) told ∙ append_assoc (map flaw_view f0) (where_typed (all_known qs) (all_told qs) (flaw (spec_place names at) 84 ∷ [])) d.flaws;
+          h.told us k ∙ ap (λ (fs : List typing.Flaw). fs ++ d.flaws) told ∙ append_assoc (map flaw_view f0) (count_told s (spec_place names at) (all_known qs) (all_told qs)) d.flaws;
       core = h.core;
       walk = h.walk;
       depth = h.depth;

@@ -4,7 +4,7 @@ use Rattle.std.specs.Prelude.{Option, Some, None, codes, if◌then◌else◌}
 use Rattle.gj_base.specs.declared.place.Place.{Place}
 use Rattle.go_syntax.specs.Tree as t
 use Rattle.go_syntax.specs.declared.tree.Name.{Name}
-use Rattle.go_typing.specs.Answer.{Answer, flaw, untyped_part}
+use Rattle.go_typing.specs.Answer.{Answer, untyped_part}
 use Rattle.go_typing.specs.Env.{Decl, Bind, find, iota_in, is_blank}
 use Rattle.go_typing.specs.Scopes.{Env, visible, last_changed, with_bind}
 use Rattle.go_callee.specs.Words.{types_of, scopes_of}
@@ -12,8 +12,8 @@ use Rattle.go_answers.specs.declared.answer.Flaw.{Flaw}
 use Rattle.go_core.specs.declared.statement.CoreStmt.{CoreStmt}
 use Rattle.go_statements.specs.Walk as go
 use Rattle.go_statements.specs.Walk.{Did, also, with_name, bind_of, is_there, uses_all}
-use Rattle.go_statements.specs.Assign.{where_typed, all_typed, all_in_flaws}
-use Rattle.go_statements.specs.Declare.{SpecType, counting, spec_place, declare_constant, const_unknown, constant_decl, type_uses, const_each, const_spec, spec_type, names_count, constant_value}
+use Rattle.go_statements.specs.Assign.{all_typed, all_in_flaws}
+use Rattle.go_statements.specs.Declare.{SpecType, counting, spec_place, declare_constant, const_unknown, constant_decl, type_uses, const_each, const_spec, spec_type, names_count, constant_value, count_told}
 use Rattle.go_walk.specs.WalkView.{walk_of}
 use Rattle.go_walk.specs.declared.walk.Walk.{Walk}
 use Rattle.go_valued.specs.Outcome.{Does}
@@ -77,8 +77,8 @@ plain_type : (u : t.MaybeExpr) (w : go.Walk) → IsPlain w.scopes → IsPlain (t
 plain_type t.NoExpr w h = h
 plain_type (t.AnExpr e) w h = h
 
-abbrev miscount : Place → go.Walk → List Name → t.Exprs → go.Walk → Did
-miscount at v ns ys x = also (where_typed (all_typed v ys) (all_in_flaws v ys) (flaw (spec_place ns at) 84 ∷ [])) (const_unknown ns x)
+abbrev miscount : Place → go.Walk → SpecType → List Name → t.Exprs → go.Walk → Did
+miscount at v s ns ys x = also (count_told s (spec_place ns at) (all_typed v ys) (all_in_flaws v ys)) (const_unknown ns x)
 
 plain_choice : (b : Bool) (d e : Did) → IsPlain d.walk.scopes → IsPlain e.walk.scopes → IsPlain (if b then d else e).walk.scopes
 plain_choice true d e h k = h
@@ -88,7 +88,7 @@ plain_spec : (at : Place) (v : go.Walk) (ns : List Name) (u : t.MaybeExpr) (ys :
 plain_spec at v ns u ys w h =
     let x = uses_all ys (type_uses u w) in
     let p = plain_type u w h in
-    plain_choice (names_count ns ys) (const_each v (spec_type v u) ns ys x) (miscount at v ns ys x) (plain_each v (spec_type v u) ns ys x p) (plain_unknown ns x p)
+    plain_choice (names_count ns ys) (const_each v (spec_type v u) ns ys x) (miscount at v (spec_type v u) ns ys x) (plain_each v (spec_type v u) ns ys x p) (plain_unknown ns x p)
 
 -- after a specification
 pub plain_after : (at : Place) (number : ℕ) (ns : List Name) (u : t.MaybeExpr) (ys : t.Exprs) (a b : Walk) (f0 f1 : List Flaw) (o0 o1 : List CoreStmt) → IsPlain (scopes_of a.env) → Does (λ w. const_spec at (counting number w) ns u ys w) a b f0 f1 o0 o1 → IsPlain (scopes_of b.env)

@@ -18,7 +18,6 @@ use Rattle.go_core.specs.CoreView.{stmt_view, var_of}
 use Rattle.go_core.specs.declared.node.Var.{Var}
 use Rattle.go_core.specs.declared.statement.CoreStmt.{CoreStmt}
 use Rattle.go_typing.specs.Answer as typing
-use Rattle.go_typing.specs.Answer.{flaw}
 use Rattle.go_typing.specs.Scopes as scopes
 use Rattle.go_typing.specs.Scopes.{visible}
 use Rattle.go_scopes.specs.EnvView.{table_of, env_of}
@@ -29,8 +28,8 @@ use Rattle.go_answers.specs.declared.answer.Flaw.{Flaw}
 use Rattle.go_statements.specs.Walk as go
 use Rattle.go_statements.specs.Walk.{Did, did, and_then, after, also, uses_all}
 use Rattle.go_statements.specs.Expressions.{Valued, answer_in}
-use Rattle.go_statements.specs.Assign.{where_typed, all_typed, all_in_flaws}
-use Rattle.go_statements.specs.Declare.{SpecType, no_type, of_type, lost_type, counting, spec_type, spec_type_flaws, type_uses, constant_value, const_each, const_unknown, const_spec, const_specs, names_count, spec_place}
+use Rattle.go_statements.specs.Assign.{all_typed, all_in_flaws}
+use Rattle.go_statements.specs.Declare.{SpecType, no_type, of_type, lost_type, counting, spec_type, spec_type_flaws, type_uses, constant_value, const_each, const_unknown, const_spec, const_specs, names_count, spec_place, count_told}
 use Rattle.go_walk.specs.WalkView.{walk_of, depth, Keeps}
 use Rattle.go_walk.specs.declared.walk.Walk.{Walk}
 use Rattle.go_typed.specs.Raw.{Raw, raw_of, raws_of}
@@ -73,15 +72,15 @@ told_all : (w : go.Walk) (ys : List t.Expr) → all_in_flaws w (exprs_of ys) ≡
 told_all w [] = refl
 told_all w (y ∷ ys) = ap (λ (fs : List typing.Flaw). (raw_of w.names w.scopes y).flaws ++ fs) (told_all w ys)
 
-abbrev miscount : Place → List Name → Bool → List typing.Flaw → go.Walk → Did
-miscount at ns b fs u = also (where_typed b fs (flaw (spec_place ns at) 84 ∷ [])) (const_unknown ns u)
+abbrev miscount : Place → SpecType → List Name → Bool → List typing.Flaw → go.Walk → Did
+miscount at s ns b fs u = also (count_told s (spec_place ns at) b fs) (const_unknown ns u)
 
 abbrev by_count : Bool → Did → Did → Did
 by_count b d e = if b then d else e
 
 given_is : (at : Place) (w : go.Walk) (s : SpecType) (ns : List Name) (ys : List t.Expr) (u : go.Walk)
-    → by_count (names_count ns (exprs_of ys)) (const_each w s ns (exprs_of ys) u) (miscount at ns (all_typed w (exprs_of ys)) (all_in_flaws w (exprs_of ys)) u) ≡ const_given w.names at s ns (raws_of w.names w.scopes ys) u
-given_is at w s ns ys u = λ j. by_count (as_many w ns ys j) (each_of w s ns ys u j) (miscount at ns (typed_all w ys j) (told_all w ys j) u)
+    → by_count (names_count ns (exprs_of ys)) (const_each w s ns (exprs_of ys) u) (miscount at s ns (all_typed w (exprs_of ys)) (all_in_flaws w (exprs_of ys)) u) ≡ const_given w.names at s ns (raws_of w.names w.scopes ys) u
+given_is at w s ns ys u = λ j. by_count (as_many w ns ys j) (each_of w s ns ys u j) (miscount at s ns (typed_all w ys j) (told_all w ys j) u)
 
 -- ---- the walk while `iota` is a number, and after it
 
@@ -179,7 +178,7 @@ spec_does at n names ty ys s rs a b c d e f g h f0 f1 f2 out none bw be bt view 
     is : (ts : List Ty) → Keeps (table_of h.env) ts
         → given_at g.env at s names rs (walk_of ts g)
         ≡ by_count (names_count names (exprs_of ys)) (const_each (counting n (walk_of ts a)) (spec_type (counting n (walk_of ts a)) ty) names (exprs_of ys) (uses_all (exprs_of ys) (type_uses ty (walk_of ts a))))
-        (miscount at names (all_typed (counting n (walk_of ts a)) (exprs_of ys)) (all_in_flaws (counting n (walk_of ts a)) (exprs_of ys)) (uses_all (exprs_of ys) (type_uses ty (walk_of ts a))))
+        (miscount at (spec_type (counting n (walk_of ts a)) ty) names (all_typed (counting n (walk_of ts a)) (exprs_of ys)) (all_in_flaws (counting n (walk_of ts a)) (exprs_of ys)) (uses_all (exprs_of ys) (type_uses ty (walk_of ts a))))
     is ts l =
         let w = counting n (walk_of ts a) in
         let u = uses_all (exprs_of ys) (type_uses ty (walk_of ts a)) in

@@ -3,11 +3,10 @@ use Rattle.std.specs.Prelude.{List, [], ◌∷◌, ◌++◌, if◌then◌else◌
 use Rattle.gj_base.specs.declared.place.Place.{Place}
 use Rattle.go_syntax.specs.declared.tree.Name.{Name}
 use Rattle.go_type.specs.Named.{NamedTy}
-use Rattle.go_typing.specs.Answer.{flaw, untyped_part}
+use Rattle.go_typing.specs.Answer.{untyped_part}
 use Rattle.go_statements.specs.Walk.{Walk, Did, did, faulty, and_then, also, is_there, redeclared}
 use Rattle.go_statements.specs.Expressions.{Valued}
-use Rattle.go_statements.specs.Assign.{where_typed}
-use Rattle.go_statements.specs.Declare.{SpecType, constant_flaws, declare_constant, const_unknown, spec_place}
+use Rattle.go_statements.specs.Declare.{SpecType, constant_flaws, declare_constant, const_unknown, spec_place, count_told}
 use Rattle.go_typed.specs.Raw.{Raw}
 use Rattle.go_valued.specs.Settled.{all_known, all_told}
 use Rattle.go_constants.specs.SpecView.{constant_raw}
@@ -33,4 +32,4 @@ const_raws ns s _ _ w = did [] w
 abbrev pub const_given : List NamedTy → Place → SpecType → List Name → List Raw → Walk → Did
 const_given ns at s names rs w =
     if same_count names rs then const_raws ns s names rs w
-    else also (where_typed (all_known rs) (all_told rs) (flaw (spec_place names at) 84 ∷ [])) (const_unknown names w)
+    else also (count_told s (spec_place names at) (all_known rs) (all_told rs)) (const_unknown names w)

@@ -18,8 +18,7 @@ use crate::names::told_constant;
 use crate::values::constant_of_spec;
 use gj_base::{NoMemory, Place};
 use go_answers::answer::{Answer, Flaw};
-use go_branch::used::fault_where_typed;
-use go_constants::SpecType;
+use go_constants::{SpecType, count_told};
 use go_local_vars::specs::first_at;
 use go_syntax::tree::Name;
 use go_typed::{Raw, Raws, gone_raws, next_raw};
@@ -137,9 +136,8 @@ fn miscounted(
     requires counts { length raws.items.items ≢ length names.now }
     ensures does { OnOk result ((out : List statement.CoreStmt) → Does (const_given (names_of walk.old.env) at (spec_view (types_of walk.old.env) s) names.now (raws_view (types_of walk.old.env) raws)) walk.old walk.new flaws.old.items flaws.new.items out out) }
 {
-    let _ = s;
     let first = first_at(names, at);
-    match fault_where_typed(flaws, first, 84, raws) {
+    match count_told(flaws, s, first, raws) {
         Ok(()) => match unknown_consts(walk, flaws, names) {
             Ok(()) => Ok(()),
             Err(error) => Err(error),

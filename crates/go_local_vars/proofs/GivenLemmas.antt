@@ -15,7 +15,6 @@ use Rattle.go_core.specs.CoreTree as core
 use Rattle.go_core.specs.CoreView.{stmt_view}
 use Rattle.go_core.specs.declared.statement.CoreStmt.{CoreStmt}
 use Rattle.go_typing.specs.Answer as typing
-use Rattle.go_typing.specs.Answer.{flaw}
 use Rattle.go_typing.specs.Scopes as scopes
 use Rattle.go_typing.specs.Scopes.{visible}
 use Rattle.go_typing.specs.Typing.{place_of}
@@ -27,9 +26,9 @@ use Rattle.go_answers.specs.declared.answer.Flaw.{Flaw}
 use Rattle.go_statements.specs.Walk as go
 use Rattle.go_statements.specs.Walk.{Did, did, also, is_there, redeclared, uses_all}
 use Rattle.go_statements.specs.Expressions.{Valued, answer_in, core_of, several_types}
-use Rattle.go_statements.specs.Assign.{Defined, where_typed, all_typed, all_in_flaws}
+use Rattle.go_statements.specs.Assign.{Defined, all_typed, all_in_flaws}
 use Rattle.go_statements.specs.Declare as declare
-use Rattle.go_statements.specs.Declare.{SpecType, no_type, of_type, lost_type, spec_type, spec_type_flaws, type_uses, spec_value, spec_var_type, spec_or, declare_one, declare_stmts, declare_target, var_zero, var_each, var_types, var_values, var_spec, var_specs, names_count, names_number, spec_place}
+use Rattle.go_statements.specs.Declare.{SpecType, no_type, of_type, lost_type, spec_type, spec_type_flaws, type_uses, spec_value, spec_var_type, spec_or, declare_one, declare_stmts, declare_target, var_zero, var_each, var_types, var_values, var_spec, var_specs, names_count, names_number, spec_place, count_told}
 use Rattle.go_walk.specs.WalkView.{walk_of, depth, Keeps}
 use Rattle.go_walk.specs.declared.walk.Walk.{Walk}
 use Rattle.go_typed.specs.Raw.{Raw, raw_of, raws_of}
@@ -98,20 +97,20 @@ told_all w (y ∷ ys) = ap (λ (fs : List typing.Flaw). (raw_of w.names w.scopes
 
 -- ---- the choices
 
-miscounts : (at : Place) (w : go.Walk) (ns : List Name) (ys : List t.Expr) (u : go.Walk) → declare.var_miscounted at w ns (exprs_of ys) u ≡ var_miscounted at ns (raws_of w.names w.scopes ys) u
-miscounts at w ns ys u = λ j. also (where_typed (typed_all w ys j) (told_all w ys j) (flaw (spec_place ns at) 84 ∷ [])) (record (var_zero lost_type ns u) { core = [] })
+miscounts : (at : Place) (w : go.Walk) (s : SpecType) (ns : List Name) (ys : List t.Expr) (u : go.Walk) → declare.var_miscounted at w s ns (exprs_of ys) u ≡ var_miscounted at s ns (raws_of w.names w.scopes ys) u
+miscounts at w s ns ys u = λ j. also (count_told s (spec_place ns at) (typed_all w ys j) (told_all w ys j)) (record (var_zero lost_type ns u) { core = [] })
 
 abbrev by_count : Bool → Defined → Did → Did
 by_count b d e = if b then stored d d.values else e
 
 without_call : (at : Place) (w : go.Walk) (s : SpecType) (ns : List Name) (ys : List t.Expr) (u : go.Walk) → declare.var_by at w s ns (exprs_of ys) None u ≡ var_all w.names at s ns (raws_of w.names w.scopes ys) u
-without_call at w s ns ys u = λ j. by_count (as_many w ns ys j) (each_var w s ns ys u j) (miscounts at w ns ys u j)
+without_call at w s ns ys u = λ j. by_count (as_many w ns ys j) (each_var w s ns ys u j) (miscounts at w s ns ys u j)
 
 abbrev by_number : Bool → Defined → core.Expr → Did → Did
 by_number b d c e = if b then stored d (core.expr c core.no_exprs) else e
 
 with_call : (at : Place) (w : go.Walk) (s : SpecType) (ns : List Name) (y : t.Expr) (vs : Tys) (u : go.Walk) → declare.var_call at w s ns y vs u ≡ var_several at s ns (raw_of w.names w.scopes y ∷ []) vs u
-with_call at w s ns y vs u = λ j. by_number (names_number ns vs) (taken s y ns vs u j) (core_of (answer_in w y)) (miscounts at w ns (y ∷ []) u j)
+with_call at w s ns y vs u = λ j. by_number (names_number ns vs) (taken s y ns vs u j) (core_of (answer_in w y)) (miscounts at w s ns (y ∷ []) u j)
 
 with_one : (at : Place) (w : go.Walk) (s : SpecType) (ns : List Name) (y : t.Expr) (o : Option Tys) (u : go.Walk) → declare.var_by at w s ns (t.MoreExprs y t.NoExprs) o u ≡ var_by w.names at s ns (raw_of w.names w.scopes y ∷ []) o u
 with_one at w s ns y None u = without_call at w s ns (y ∷ []) u

@@ -16,7 +16,6 @@ use Rattle.go_core.specs.declared.node.CoreExpr.{CoreExpr}
 use Rattle.go_core.specs.declared.statement.CoreStmt.{CoreStmt}
 use Rattle.go_core.specs.declared.statement.Target.{Target}
 use Rattle.go_typing.specs.Answer as typing
-use Rattle.go_typing.specs.Answer.{flaw}
 use Rattle.go_scopes.specs.EnvView.{table_of}
 use Rattle.go_callee.specs.Words.{types_of}
 use Rattle.go_answers.specs.AnswerView.{answer_view, flaw_view}
@@ -25,8 +24,8 @@ use Rattle.go_answers.specs.declared.answer.Flaw.{Flaw}
 use Rattle.go_statements.specs.Walk as go
 use Rattle.go_statements.specs.Walk.{Did, did}
 use Rattle.go_statements.specs.Expressions.{core_of}
-use Rattle.go_statements.specs.Assign.{Defined, no_more, where_typed}
-use Rattle.go_statements.specs.Declare.{SpecType, lost_type, declare_one, declare_stmts, var_zero, names_number, spec_place}
+use Rattle.go_statements.specs.Assign.{Defined, no_more}
+use Rattle.go_statements.specs.Declare.{SpecType, lost_type, declare_one, declare_stmts, var_zero, names_number, spec_place, count_told}
 use Rattle.go_walk.specs.WalkView.{walk_of, Keeps}
 use Rattle.go_walk.specs.declared.walk.Walk.{Walk}
 use Rattle.go_typed.specs.declared.raw.Raw as code
@@ -94,14 +93,14 @@ no_core (n ∷ ns) w = lost n (go.is_there n w) w ∙ no_core ns (declare_one n 
     lost m None u = refl
     lost m (Some at) u = refl
 
-pub miscounted_does : (at p : Place) (names : List Name) (rs : List Raw) (a b : Walk) (f0 f1 f2 : List Flaw) (o0 o1 : List CoreStmt) → p ≡ spec_place names at → map flaw_view f1 ≡ map flaw_view f0 ++ where_typed (all_known rs) (all_told rs) (flaw p 84 ∷ [])
-    → Does (var_zero lost_type names) a b f1 f2 o0 o1 → Does (var_miscounted at names rs) a b f0 f2 o0 o1
-miscounted_does at p names rs a b f0 f1 f2 o0 o1 q t h =
-    let told : map flaw_view f1 ≡ map flaw_view f0 ++ where_typed (all_known rs) (all_told rs) (flaw (spec_place names at) 84 ∷ []) = t ∙ ap (λ (x : Place). map flaw_view f0 ++ where_typed (all_known rs) (all_told rs) (flaw x 84 ∷ [])) q in
+pub miscounted_does : (at p : Place) (s : SpecType) (names : List Name) (rs : List Raw) (a b : Walk) (f0 f1 f2 : List Flaw) (o0 o1 : List CoreStmt) → p ≡ spec_place names at → map flaw_view f1 ≡ map flaw_view f0 ++ count_told s p (all_known rs) (all_told rs)
+    → Does (var_zero lost_type names) a b f1 f2 o0 o1 → Does (var_miscounted at s names rs) a b f0 f2 o0 o1
+miscounted_does at p s names rs a b f0 f1 f2 o0 o1 q t h =
+    let told : map flaw_view f1 ≡ map flaw_view f0 ++ count_told s (spec_place names at) (all_known rs) (all_told rs) = t ∙ ap (λ (x : Place). map flaw_view f0 ++ count_told s x (all_known rs) (all_told rs)) q in
     record {
       told = λ ts l.
           let zero = var_zero lost_type names (walk_of ts a) in
-          h.told ts l ∙ ap (λ (fs : List typing.Flaw). fs ++ zero.flaws) told ∙ append_assoc (map flaw_view f0) (where_typed (all_known rs) (all_told rs) (flaw (spec_place names at) 84 ∷ [])) zero.flaws;
+          h.told ts l ∙ ap (λ (fs : List typing.Flaw). fs ++ zero.flaws) told ∙ append_assoc (map flaw_view f0) (count_told s (spec_place names at) (all_known rs) (all_told rs)) zero.flaws;
       core = λ ts l. h.core ts l ∙ ap (λ (ss : List core.Stmt). map (stmt_view ts) o0 ++ ss) (no_core names (walk_of ts a));
       walk = h.walk;
       depth = h.depth;
@@ -139,12 +138,12 @@ other_types ts (n ∷ names) (i ∷ is) h = other_types ts names is (λ e. h (om
 pub several_same : (at : Place) (s : SpecType) (names : List Name) (rs : List Raw) (ts : List Ty) (is : List TypeId) (a b : Walk) (f0 f1 : List Flaw) (o0 o1 : List CoreStmt) → length is ≡ length names → Does (var_first s names (trees_of ts is) rs) a b f0 f1 o0 o1
     → Does (var_several at s names rs (trees_of ts is)) a b f0 f1 o0 o1
 several_same at s names rs ts is a b f0 f1 o0 o1 l h =
-    chosen (var_first s names (trees_of ts is) rs) (var_miscounted at names rs) (names_number names (trees_of ts is)) a b f0 f1 o0 o1 (same_types ts names is (sym l)) h
+    chosen (var_first s names (trees_of ts is) rs) (var_miscounted at s names rs) (names_number names (trees_of ts is)) a b f0 f1 o0 o1 (same_types ts names is (sym l)) h
 
-pub several_other : (at : Place) (s : SpecType) (names : List Name) (rs : List Raw) (ts : List Ty) (is : List TypeId) (a b : Walk) (f0 f1 : List Flaw) (o0 o1 : List CoreStmt) → length is ≢ length names → Does (var_miscounted at names rs) a b f0 f1 o0 o1
+pub several_other : (at : Place) (s : SpecType) (names : List Name) (rs : List Raw) (ts : List Ty) (is : List TypeId) (a b : Walk) (f0 f1 : List Flaw) (o0 o1 : List CoreStmt) → length is ≢ length names → Does (var_miscounted at s names rs) a b f0 f1 o0 o1
     → Does (var_several at s names rs (trees_of ts is)) a b f0 f1 o0 o1
 several_other at s names rs ts is a b f0 f1 o0 o1 l h =
-    passed_over (var_first s names (trees_of ts is) rs) (var_miscounted at names rs) (names_number names (trees_of ts is)) a b f0 f1 o0 o1 (other_types ts names is l) h
+    passed_over (var_first s names (trees_of ts is) rs) (var_miscounted at s names rs) (names_number names (trees_of ts is)) a b f0 f1 o0 o1 (other_types ts names is l) h
 
 -- as many names as values, where the last one is held first
 count_after : (ts : List Ty) (rs : List code.Raw) (after : List Raw) → length (raws_after ts rs after) ≡ length rs + length after
@@ -170,13 +169,13 @@ pub every_same : (ns : List NamedTy) (at : Place) (s : SpecType) (names : List N
     → Does (var_all ns at s names (raws_after ts rs [])) a b f0 f1 o0 o1
 every_same ns at s names ts rs a b f0 f1 o0 o1 l h =
     let qs = raws_after ts rs [] in
-    chosen (var_each_did ns s names qs) (var_miscounted at names qs) (same_count names qs) a b f0 f1 o0 o1 (same_values names qs (counted ts rs ∙ l)) h
+    chosen (var_each_did ns s names qs) (var_miscounted at s names qs) (same_count names qs) a b f0 f1 o0 o1 (same_values names qs (counted ts rs ∙ l)) h
 
-pub every_other : (ns : List NamedTy) (at : Place) (s : SpecType) (names : List Name) (ts : List Ty) (rs : List code.Raw) (a b : Walk) (f0 f1 : List Flaw) (o0 o1 : List CoreStmt) → length rs ≢ length names → Does (var_miscounted at names (raws_after ts rs [])) a b f0 f1 o0 o1
+pub every_other : (ns : List NamedTy) (at : Place) (s : SpecType) (names : List Name) (ts : List Ty) (rs : List code.Raw) (a b : Walk) (f0 f1 : List Flaw) (o0 o1 : List CoreStmt) → length rs ≢ length names → Does (var_miscounted at s names (raws_after ts rs [])) a b f0 f1 o0 o1
     → Does (var_all ns at s names (raws_after ts rs [])) a b f0 f1 o0 o1
 every_other ns at s names ts rs a b f0 f1 o0 o1 l h =
     let qs = raws_after ts rs [] in
-    passed_over (var_each_did ns s names qs) (var_miscounted at names qs) (same_count names qs) a b f0 f1 o0 o1 (other_values names qs (λ e. l (sym (counted ts rs) ∙ e))) h
+    passed_over (var_each_did ns s names qs) (var_miscounted at s names qs) (same_count names qs) a b f0 f1 o0 o1 (other_values names qs (λ e. l (sym (counted ts rs) ∙ e))) h
 
 pub first_some : (s : SpecType) (names : List Name) (vs : Tys) (r : Raw) (rs qs : List Raw) (a b : Walk) (f0 f1 : List Flaw) (o0 o1 : List CoreStmt) → qs ≡ r ∷ rs → Does (var_whole s names vs r) a b f0 f1 o0 o1 → Does (var_first s names vs qs) a b f0 f1 o0 o1
 first_some s names vs r rs qs a b f0 f1 o0 o1 p h = subst (λ (x : List Raw). DoesIt (var_first s names vs x) a b f0 f1 o0 o1) (sym p) h

@@ -8,8 +8,8 @@ use Rattle.go_core.specs.CoreTree as core
 use Rattle.go_typing.specs.Answer.{Flaw, flaw}
 use Rattle.go_statements.specs.Walk.{Walk, Did, did, also, is_there, redeclared}
 use Rattle.go_statements.specs.Expressions.{Valued, core_of}
-use Rattle.go_statements.specs.Assign.{Defined, no_more, where_typed}
-use Rattle.go_statements.specs.Declare.{SpecType, no_type, of_type, lost_type, spec_var_type, declare_one, declare_stmts, declare_target, spec_or, fits_spec, var_zero, names_number, spec_place}
+use Rattle.go_statements.specs.Assign.{Defined, no_more}
+use Rattle.go_statements.specs.Declare.{SpecType, no_type, of_type, lost_type, spec_var_type, declare_one, declare_stmts, declare_target, spec_or, fits_spec, var_zero, names_number, spec_place, count_told}
 use Rattle.go_typed.specs.Raw.{Raw}
 use Rattle.go_valued.specs.Settled.{at_type, alone, all_known, all_told, several_in}
 
@@ -58,8 +58,8 @@ same_count [] [] = true
 same_count (n ∷ ns) (r ∷ rs) = same_count ns rs
 same_count _ _ = false
 
-abbrev pub var_miscounted : Place → List Name → List Raw → Walk → Did
-var_miscounted at names rs w = also (where_typed (all_known rs) (all_told rs) (flaw (spec_place names at) 84 ∷ [])) (record (var_zero lost_type names w) { core = [] })
+abbrev pub var_miscounted : Place → SpecType → List Name → List Raw → Walk → Did
+var_miscounted at s names rs w = also (count_told s (spec_place names at) (all_known rs) (all_told rs)) (record (var_zero lost_type names w) { core = [] })
 
 abbrev pub var_each_did : List NamedTy → SpecType → List Name → List Raw → Walk → Did
 var_each_did ns s names rs w = stored (var_raws ns s names rs w) (var_raws ns s names rs w).values
@@ -81,10 +81,10 @@ var_first s names vs [] w = did [] w
 var_first s names vs (r ∷ rs) w = var_whole s names vs r w
 
 abbrev pub var_several : Place → SpecType → List Name → List Raw → Tys → Walk → Did
-var_several at s names rs vs w = if names_number names vs then var_first s names vs rs w else var_miscounted at names rs w
+var_several at s names rs vs w = if names_number names vs then var_first s names vs rs w else var_miscounted at s names rs w
 
 abbrev pub var_all : List NamedTy → Place → SpecType → List Name → List Raw → Walk → Did
-var_all ns at s names rs w = if same_count names rs then var_each_did ns s names rs w else var_miscounted at names rs w
+var_all ns at s names rs w = if same_count names rs then var_each_did ns s names rs w else var_miscounted at s names rs w
 
 abbrev pub var_by : List NamedTy → Place → SpecType → List Name → List Raw → Option Tys → Walk → Did
 var_by ns at s names rs None w = var_all ns at s names rs w

@@ -24,8 +24,8 @@ use crate::valued::all_vars;
 use crate::zero::zeros;
 use gj_base::{NoMemory, Place};
 use go_answers::answer::Flaw;
-use go_branch::used::{fault_where_typed, raws_used};
-use go_constants::SpecType;
+use go_branch::used::raws_used;
+use go_constants::{SpecType, count_told};
 use go_core::statement::CoreStmt;
 use go_scopes::Env;
 use go_syntax::tree::{Name, ValueSpec};
@@ -53,14 +53,15 @@ fn miscounted(
     flaws: &mut Vec<Flaw>,
     out: &mut Vec<CoreStmt>,
     at: Place,
+    s: SpecType,
     names: &[Name],
     raws: Raws,
 ) -> Result<(), NoMemory>
     requires depth { 0 < depth walk.old }
-    ensures does { OnOk result (Does (var_miscounted at names.now (raws_view (types_of walk.old.env) raws)) walk.old walk.new flaws.old.items flaws.new.items out.old.items out.new.items) }
+    ensures does { OnOk result (Does (var_miscounted at (spec_view (types_of walk.old.env) s) names.now (raws_view (types_of walk.old.env) raws)) walk.old walk.new flaws.old.items flaws.new.items out.old.items out.new.items) }
 {
     let first = first_at(names, at);
-    match fault_where_typed(flaws, first, 84, raws) {
+    match count_told(flaws, s, first, raws) {
         Ok(()) => match zeros(walk, flaws, out, SpecType::Lost, names) {
             Ok(()) => Ok(()),
             Err(error) => Err(error),
@@ -87,7 +88,7 @@ fn several_vars(
     ensures does { OnOk result (Does (var_several at (spec_view (types_of walk.old.env) s) names.now (raws_view (types_of walk.old.env) raws) (trees_of (types_of walk.old.env) types.now)) walk.old walk.new flaws.old.items flaws.new.items out.old.items out.new.items) }
 {
     if types.len() != names.len() {
-        miscounted(walk, flaws, out, at, names, raws)?;
+        miscounted(walk, flaws, out, at, s, names, raws)?;
         return Ok(());
     }
     first_vars(walk, flaws, out, s, names, types, raws)?;
@@ -110,7 +111,7 @@ fn every_var(
     ensures does { OnOk result (Does (var_all (names_of walk.old.env) at (spec_view (types_of walk.old.env) s) names.now (raws_view (types_of walk.old.env) raws)) walk.old walk.new flaws.old.items flaws.new.items out.old.items out.new.items) }
 {
     if raws.items.len() != names.len() {
-        miscounted(walk, flaws, out, at, names, raws)?;
+        miscounted(walk, flaws, out, at, s, names, raws)?;
         return Ok(());
     }
     all_vars(walk, flaws, out, s, names, raws)?;

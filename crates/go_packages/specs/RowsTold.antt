@@ -83,6 +83,8 @@ pub record RowsTold : Type 0 where
   pub constant_without_a_value : fault_of ((t.ConstDecl (at 14) (spec ((id (codes "a") 20) ∷ (id (codes "b") 23) ∷ []) t.NoExpr ((num (codes "4") 27) ∷ []) t.NoValues)) ∷ (t.FuncDecl (at 29) (id (codes "main") 34) (t.SigOf (at 38) (params ([])) t.NoResults) (block 41 ([]) 43)) ∷ []) ≡ Some (fault 20 84)
   -- `const ( a = iota; b; c ); func main() { var x uint8 = c; println(x) }`
   pub counted_constants : fault_of ((t.ConstDecl (at 14) (spec ((id (codes "a") 22) ∷ []) t.NoExpr ((name (codes "iota") 26) ∷ []) (spec ((id (codes "b") 32) ∷ []) t.NoExpr ([]) (spec ((id (codes "c") 35) ∷ []) t.NoExpr ([]) t.NoValues)))) ∷ (t.FuncDecl (at 39) (id (codes "main") 44) (t.SigOf (at 48) (params ([])) t.NoResults) (block 51 ((t.DeclStmt (at 53) (t.VarDecl (at 53) (spec ((id (codes "x") 57) ∷ []) (t.AnExpr (name (codes "uint8") 59)) ((name (codes "c") 67) ∷ []) t.NoValues))) ∷ (t.ExprStmt (at 70) (exprs ((call (name (codes "println") 70) ((name (codes "x") 78) ∷ [])) ∷ []))) ∷ []) 81)) ∷ []) ≡ None
+  -- `const x, y z = 4; func main() { }`
+  pub counts_beside_an_undefined_type : fault_of ((t.ConstDecl (at 14) (spec ((id (codes "x") 20) ∷ (id (codes "y") 23) ∷ []) (t.AnExpr (name (codes "z") 25)) ((num (codes "4") 29) ∷ []) t.NoValues)) ∷ (t.FuncDecl (at 32) (id (codes "main") 37) (t.SigOf (at 41) (params ([])) t.NoResults) (block 44 ([]) 46)) ∷ []) ≡ Some (named_fault 25 50 (codes "z"))
   -- `const ( a uint8 = 255 + iota; b ); func main() { }`
   pub repeated_list_past_its_type : fault_of ((t.ConstDecl (at 14) (spec ((id (codes "a") 22) ∷ []) (t.AnExpr (name (codes "uint8") 24)) ((two (num (codes "255") 32) operator.Add (name (codes "iota") 38)) ∷ []) (spec ((id (codes "b") 44) ∷ []) t.NoExpr ([]) t.NoValues))) ∷ (t.FuncDecl (at 48) (id (codes "main") 53) (t.SigOf (at 57) (params ([])) t.NoResults) (block 60 ([]) 62)) ∷ []) ≡ Some (fault 32 32)
   -- `const a = f(); func f() int { return a }; func main() { }`

@@ -10,8 +10,8 @@ use Rattle.go_typing.specs.Answer.{Flaw, flaw}
 use Rattle.go_typing.specs.Scopes.{place_in}
 use Rattle.go_statements.specs.Walk.{Walk, redeclared}
 use Rattle.go_statements.specs.Expressions.{type_in}
-use Rattle.go_statements.specs.Assign.{where_typed, all_typed, all_in_flaws}
-use Rattle.go_statements.specs.Declare.{SpecType, counting, spec_type, spec_type_flaws, constant_value, names_count, spec_place}
+use Rattle.go_statements.specs.Assign.{all_typed, all_in_flaws}
+use Rattle.go_statements.specs.Declare.{SpecType, counting, spec_type, spec_type_flaws, constant_value, names_count, spec_place, count_told}
 use Rattle.go_packages.specs.Signature.{SigTypes, sig_flaws, sig_types}
 use Rattle.go_packages.specs.Items.{Item, init_item, name_of, is_init}
 use Rattle.go_packages.specs.Known.{with_item}
@@ -22,10 +22,10 @@ abbrev pub each_told : Walk → SpecType → List Name → t.Exprs → List Flaw
 each_told w s (n ∷ ns) (t.MoreExprs y ys) = (constant_value w s y).flaws ++ each_told w s ns ys
 each_told w s _ _ = []
 
--- a wrong count is told at the specification (84)
+-- a wrong count is told at the specification, where its type and its values are typed (84)
 abbrev pub spec_told : Place → Walk → List Name → t.MaybeExpr → t.Exprs → List Flaw
 spec_told at w ns u ys =
-    spec_type_flaws w u ++ (if names_count ns ys then each_told w (spec_type w u) ns ys else where_typed (all_typed w ys) (all_in_flaws w ys) (flaw (spec_place ns at) 84 ∷ []))
+    spec_type_flaws w u ++ (if names_count ns ys then each_told w (spec_type w u) ns ys else count_told (spec_type w u) (spec_place ns at) (all_typed w ys) (all_in_flaws w ys))
 
 abbrev pub specs_told : Place → ℕ → Walk → t.MaybeExpr → t.Exprs → t.ValueSpecs → List Flaw
 specs_told at k w u ys t.NoValues = []

@@ -17,8 +17,8 @@ use Rattle.go_typing.specs.Answer.{Flaw, flaw, Answer}
 use Rattle.go_typing.specs.Convert.{is_scalar}
 use Rattle.go_statements.specs.Walk.{Walk, Around, Did, faulty, and_then, also, is_there, redeclared, with_name, uses, uses_all}
 use Rattle.go_statements.specs.Expressions.{type_in, type_of}
-use Rattle.go_statements.specs.Assign.{all_typed, all_in_flaws, where_typed}
-use Rattle.go_statements.specs.Declare.{SpecType, spec_type, spec_type_flaws, type_uses, names_count, spec_place, with_iota, counting, constant_value, constant_decl, declare_constant, const_each, const_unknown, const_spec, const_specs, is_bare, new_named, declare_type, type_spec, type_specs, decl}
+use Rattle.go_statements.specs.Assign.{all_typed, all_in_flaws}
+use Rattle.go_statements.specs.Declare.{SpecType, spec_type, spec_type_flaws, type_uses, names_count, spec_place, spec_known, count_told, with_iota, counting, constant_value, constant_decl, declare_constant, const_each, const_unknown, const_spec, const_specs, is_bare, new_named, declare_type, type_spec, type_specs, decl}
 use Rattle.go_sound.specs.Added.{TypeIsSet}
 use Rattle.go_sound.specs.GoesOn.{GoesOn}
 use Rattle.go_sound.specs.SoundTyped.{HasOperators, AllHaveOperators, BoundHasOperators, IsScalarType}
@@ -31,7 +31,7 @@ use Rattle.go_programs.specs.Grammar.{ValuesOfGrammar, TypesOfGrammar, DeclOfGra
 use Rattle.go_programs.specs.SoundStatements.{Holds}
 use Rattle.go_programs.proofs.Words.{at_vars, after_vars}
 use Rattle.go_programs.proofs.Ready.{State, Like, like_uses, found_push, ready_changed, ready_later, ready_like, NamesOf, names_of, holds_part, Done, done_none, done_then, state_on, Scoped, scoped_like, scoped_named, Quiet, done_quiet, done_also, IsBefore, like_same, Adds, adds_like, adds_then, adds_type, done_like}
-use Rattle.go_programs.proofs.Here.{IsAType, type_there, SpecHere, spec_there, constant_there, never_told, under_kept}
+use Rattle.go_programs.proofs.Here.{IsAType, type_there, SpecHere, spec_there, constant_there, never_told_with, spec_is_known, under_kept}
 use Rattle.go_programs.proofs.Defines.{named_names, adds_named}
 use Rattle.go_programs.proofs.VarDecls.{like_parts, var_specs_done}
 
@@ -103,7 +103,7 @@ quiet_constants p a vs w r s i (n ∷ ns) t.NoExprs o u m c h = record { nothing
 
 abbrev const_spec_if : Place → Walk → List Name → t.MaybeExpr → t.Exprs → Walk → Bool → Did
 const_spec_if at w ns u ys v c =
-    if c then const_each w (spec_type w u) ns ys (uses_all ys (type_uses u v)) else also (where_typed (all_typed w ys) (all_in_flaws w ys) (flaw (spec_place ns at) 84 ∷ [])) (const_unknown ns (uses_all ys (type_uses u v)))
+    if c then const_each w (spec_type w u) ns ys (uses_all ys (type_uses u v)) else also (count_told (spec_type w u) (spec_place ns at) (all_typed w ys) (all_in_flaws w ys)) (const_unknown ns (uses_all ys (type_uses u v)))
 
 const_spec_done : (p : CoreProgram) (a : node.Around) (at : Place) (n : ℕ) (ns : List Name) (u : t.MaybeExpr) (ys : t.Exprs) → BoundHasOperators u → AllHaveOperators ys → (vs : List Var) (b : Around) (w : Walk) → State p a vs b w
     → (const_spec at (counting n w) ns u ys w).flaws ≡ [] → Done p a vs w (const_spec at (counting n w) ns u ys w)
@@ -122,7 +122,9 @@ const_spec_done p a at n ns u ys o q vs b w s h =
         (done_quiet p a vs (uses_all ys (type_uses u w)) (const_each (counting n w) (spec_type (counting n w) u) ns ys (uses_all ys (type_uses u w)))
         (quiet_constants p a vs (counting n w) ready (spec_type (counting n w) u) (spec_there p (at_vars a vs) (counting n w) ready u o (no_first (spec_type_flaws (counting n w) u) _ h)) ns ys q (uses_all ys (type_uses u w)) same.names
         (scoped_like p a vs w (uses_all ys (type_uses u w)) same (record { ready = s.ready; before = s.before })) g))
-    by_count false g = absurd (never_told p (at_vars a vs) (counting n w) ready ys (flaw (spec_place ns at) 84) (no_first (where_typed (all_typed (counting n w) ys) (all_in_flaws (counting n w) ys) (flaw (spec_place ns at) 84 ∷ [])) _ g))
+    by_count false g = absurd (never_told_with p (at_vars a vs) (counting n w) ready (spec_known (spec_type (counting n w) u)) ys (flaw (spec_place ns at) 84)
+        (spec_is_known p (at_vars a vs) (counting n w) ready (spec_type (counting n w) u) (spec_there p (at_vars a vs) (counting n w) ready u o (no_first (spec_type_flaws (counting n w) u) _ h)))
+        (no_first (count_told (spec_type (counting n w) u) (spec_place ns at) (all_typed (counting n w) ys) (all_in_flaws (counting n w) ys)) _ g))
 
 -- one specification, and then the others
 const_then : (p : CoreProgram) (a : node.Around) (at : Place) (n : ℕ) (ns : List Name) (u : t.MaybeExpr) (ys : t.Exprs) (xs : t.ValueSpecs) → BoundHasOperators u → AllHaveOperators ys → (vs : List Var) (b : Around) (w : Walk) → State p a vs b w

@@ -1,5 +1,5 @@
 -- Variables that statements declare: short declarations and variable declarations of which nothing is told.
-use Rattle.std.proofs.Common.{◌≡◌, ◌≤◌, ◌<◌, ℕ, suc, List, [], ◌∷◌, ◌++◌, refl, sym, subst, ap, ◌∙◌, arith, Bool, true, false, Option, Some, None, if◌then◌else◌, Contains}
+use Rattle.std.proofs.Common.{◌≡◌, ◌≤◌, ◌<◌, ℕ, suc, List, [], ◌∷◌, ◌++◌, refl, sym, subst, ap, ◌∙◌, arith, Bool, true, false, ◌&&◌, Option, Some, None, if◌then◌else◌, Contains}
 use Rattle.std.proofs.lemmas.List.Elements.{Contains-append_left, Contains-push}
 use Rattle.gj_base.specs.declared.place.Place.{Place}
 use Rattle.go_syntax.specs.Tree as t
@@ -17,7 +17,7 @@ use Rattle.go_typing.specs.Scopes.{last_changed, with_bind}
 use Rattle.go_typing.specs.Typing.{place_of}
 use Rattle.go_statements.specs.Walk.{Walk, Around, Did, body, bind_of, is_there, with_name, fresh, var_of, noted, with_variable, uses_all}
 use Rattle.go_statements.specs.Expressions.{Valued, answer_in, value_alone, core_of, type_of, several_types}
-use Rattle.go_statements.specs.Assign.{left_of, left_flaws, target_of, takes, value_for, same_number, count_of, several_right, first_right, Fresh, new_name, old_name, blank_name, no_name, fresh_of, Defined, with_new, new_stmts, new_target, define_new, define_one, define_each, define_flaws, defined_did, define_type_new, define_type, define_types, define_miscounted, define_by, define, left_uses}
+use Rattle.go_statements.specs.Assign.{left_of, left_flaws, target_of, takes, value_for, same_number, count_of, several_right, first_right, Fresh, new_name, old_name, blank_name, no_name, fresh_of, Defined, with_new, new_stmts, new_target, define_new, define_one, define_each, define_flaws, defined_did, define_type_new, define_type, define_types, define_miscounted, define_by, define, left_uses, sides_typed, sides_told, old_flaws, names_flaws, first_place, undeclared, where_typed, all_typed, all_in_flaws}
 use Rattle.go_sound.specs.Added.{TypeIsSet, TypesAreSet}
 use Rattle.go_sound.specs.GoesOn.{GoesOn}
 use Rattle.go_sound.specs.SoundTyped.{HasOperators, AllHaveOperators, IsScalarType, AreScalarTypes}
@@ -29,7 +29,7 @@ use Rattle.go_programs.specs.SoundStatements.{VariablesBefore, Holds}
 use Rattle.go_programs.proofs.Words.{at_vars, after_vars, after_append, sound_append, Extends, extends_same, extends_then, extends_less, extends_var, newest, one_of_three, two_of_three, three_of_three}
 use Rattle.go_programs.proofs.Ready.{State, Like, like_same, like_then, like_left, like_uses_all, like_noted, ready_vars, holds_part, Done, Scoped, scoped_like, scoped_named, scoped_fresh, Adds, adds_none, adds_like, adds_then, adds_var}
 use Rattle.go_programs.proofs.Here.{any_there, never_told_before, AreSeveralHere, several_there}
-use Rattle.go_programs.proofs.Stores.{left_here, Stored, stored_none, stored_more, stored_several, left_stored, target_takes}
+use Rattle.go_programs.proofs.Stores.{left_here, Stored, stored_none, stored_more, stored_several, left_stored, target_takes, sides_untold}
 
 -- ---- a variable comes
 
@@ -354,17 +354,29 @@ define_call_if at w fs xs y us u c =
 module _ (p : CoreProgram) (a : node.Around) (vs : List Var) (b : Around) (w : Walk) (s : State p a vs b w) where
   -- ---- `xs := ys`
 
-  define_by_done : (at : Place) (fs : List Flaw) (xs ys : t.Exprs) (u : Walk) → Like w u → AllHaveOperators ys → (o : Option Tys) → several_right w ys ≡ o → Holds p a.declarable u (define_by at w fs xs ys o u).walk
+  -- a fault of the statement itself is told
+  sides_always : (f : Flaw) (fs : List Flaw) (xs ys : t.Exprs) → (fs ≡ [] → old_flaws w xs ≡ [] → sides_typed w xs ≡ true) → sides_told f w fs xs ys ≡ [] → ⊥
+  sides_always f fs xs ys sides h =
+      let told = where_typed (sides_typed w xs && all_typed w ys) (all_in_flaws w ys ++ fs) (f ∷ []) in
+      never_told_before p (at_vars a vs) w s.ready (sides_typed w xs) fs ys f (λ q. sides q (no_second told (old_flaws w xs) h)) (no_first told (old_flaws w xs) h)
+
+  names_untold : (xs : t.Exprs) → names_flaws w [] xs ≡ [] → old_flaws w xs ≡ [] → sides_typed w xs ≡ true
+  names_untold xs q o = sides_untold p (at_vars a vs) w s.ready [] xs q o
+
+  pub none_undeclared : (at : Place) (xs ys : t.Exprs) → (undeclared at xs ys w).flaws ≡ [] → ⊥
+  none_undeclared at xs ys h = sides_always (flaw (first_place xs at) 83) (names_flaws w [] xs) xs ys (names_untold xs) h
+
+  define_by_done : (at : Place) (fs : List Flaw) (xs ys : t.Exprs) (u : Walk) → (fs ≡ [] → old_flaws w xs ≡ [] → sides_typed w xs ≡ true) → Like w u → AllHaveOperators ys → (o : Option Tys) → several_right w ys ≡ o → Holds p a.declarable u (define_by at w fs xs ys o u).walk
       → (define_by at w fs xs ys o u).flaws ≡ [] → Done p a vs w (define_by at w fs xs ys o u)
-  define_by_done at fs xs ys u l q None e k h = by_count (count_of xs ys) k h
+  define_by_done at fs xs ys u sides l q None e k h = by_count (count_of xs ys) k h
     where
       by_count : (c : Bool) → Holds p a.declarable u (if c then defined_did fs (define_each w xs ys u) else define_miscounted at w fs xs ys u).walk → (if c then defined_did fs (define_each w xs ys u) else define_miscounted at w fs xs ys u).flaws ≡ []
           → Done p a vs w (if c then defined_did fs (define_each w xs ys u) else define_miscounted at w fs xs ys u)
       by_count true i g =
           stored_done p a w vs u (define_each w xs ys u).before (define_each w xs ys u).targets (define_each w xs ys u).values _ (define_each w xs ys u).walk l
           (each_here p a w xs ys q vs u (at_state p a w vs b u l s) i (no_first (define_each w xs ys u).flaws fs g))
-      by_count false i g = absurd (never_told_before p (at_vars a vs) w s.ready fs ys (flaw at 84) g)
-  define_by_done at fs xs ys u l q (Some us) e k h = by_number (same_number xs us) refl k h
+      by_count false i g = absurd (sides_always (flaw at 84) fs xs ys sides g)
+  define_by_done at fs xs ys u sides l q (Some us) e k h = by_number (same_number xs us) refl k h
     where
       y : t.Expr
       y = first_right ys (t.NameExpr at [])
@@ -381,10 +393,11 @@ module _ (p : CoreProgram) (a : node.Around) (vs : List Var) (b : Around) (w : W
           stored_done p a w vs u (define_types w y xs us u).before (define_types w y xs us u).targets (core.expr (core_of (answer_in w y)) core.no_exprs) _ (define_types w y xs us u).walk l
           (call_here p a w vs u (define_types w y xs us u).before (define_types w y xs us u).targets us y (define_types w y xs us u).walk h2 call.has_operators call.several
           (each_type_here p a w y xs us n several.scalar several.set vs u h2 i (no_first (define_types w y xs us u).flaws fs g)))
-      by_number false n i g = absurd (never_told_before p (at_vars a vs) w s.ready fs (t.MoreExprs y t.NoExprs) (flaw at 84) g)
+      by_number false n i g = absurd (sides_always (flaw at 84) fs xs (t.MoreExprs y t.NoExprs) sides g)
 
   pub define_done : (at : Place) (xs ys : t.Exprs) → AllHaveOperators ys → Holds p a.declarable w (define at xs ys w).walk → (define at xs ys w).flaws ≡ [] → Done p a vs w (define at xs ys w)
-  define_done at xs ys q k h = define_by_done at (define_flaws at w xs ys) xs ys (uses_all ys (left_uses xs w)) (like_then w (left_uses xs w) (uses_all ys (left_uses xs w)) (like_left xs w) (like_uses_all ys (left_uses xs w))) q (several_right w ys) refl held h
+  define_done at xs ys q k h = define_by_done at (define_flaws at w xs ys) xs ys (uses_all ys (left_uses xs w))
+      (λ q o. names_untold xs (no_first (names_flaws w [] xs) _ q) o) (like_then w (left_uses xs w) (uses_all ys (left_uses xs w)) (like_left xs w) (like_uses_all ys (left_uses xs w))) q (several_right w ys) refl held h
     where
       held : Holds p a.declarable (uses_all ys (left_uses xs w)) (define at xs ys w).walk
       held =

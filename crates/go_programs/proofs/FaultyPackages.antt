@@ -1,5 +1,5 @@
 -- Exactly the faulty declarations of a package are told.
-use Rattle.std.proofs.Common.{◌≡◌, ◌⊎◌, ◌↔◌, inl, inr, ◌==◌, ℕ, suc, ◌+◌, ◌<◌, nat_lt, List, [], ◌∷◌, ◌++◌, refl, Bool, true, false, Option, Some, None, if◌then◌else◌}
+use Rattle.std.proofs.Common.{◌≡◌, ◌⊎◌, ◌↔◌, inl, inr, ◌==◌, ℕ, suc, ◌+◌, ◌<◌, nat_lt, List, [], ◌∷◌, ◌++◌, refl, Bool, true, false, ◌&&◌, Option, Some, None, if◌then◌else◌}
 use Rattle.std.proofs.lemmas.Bool.{eqb-true, eq-eqb, ltb-true, lt-ltb}
 use Rattle.gj_base.specs.declared.place.Place.{Place}
 use Rattle.go_syntax.specs.Tree as t
@@ -15,7 +15,7 @@ use Rattle.go_typing.proofs.Exact.{lists_exactly_at}
 use Rattle.go_statements.specs.Walk.{Walk}
 use Rattle.go_statements.specs.Expressions.{answer_in, flaws_in, value_at, type_in}
 use Rattle.go_statements.specs.Assign.{where_typed, all_typed, all_in_flaws}
-use Rattle.go_statements.specs.Declare.{SpecType, no_type, of_type, lost_type, spec_type, spec_type_flaws, counting, constant_flaws, constant_value, names_count, spec_place}
+use Rattle.go_statements.specs.Declare.{SpecType, no_type, of_type, lost_type, spec_type, spec_type_flaws, counting, constant_flaws, constant_value, spec_known, names_count, spec_place, count_told}
 use Rattle.go_packages.specs.Signature.{SigTypes, sig_flaws, sig_types, params_of, results_of, all_bound, inside}
 use Rattle.go_packages.specs.Items.{is_init}
 use Rattle.go_packages.specs.Items.{items_of}
@@ -106,12 +106,12 @@ count_exact false (x ∷ ps) A p g f = (λ h. inl ((p f).0 h), λ r. back r)
 module _ (f : Flaw) where
   spec_exact : (at : Place) (w : Walk) (ns : List Name) (u : t.MaybeExpr) (ys : t.Exprs) → IsIn f (spec_told at w ns u ys) ↔ HasSpecFault at w ns u ys f
   spec_exact at w ns u ys =
-      both f (spec_type_flaws w u) (if names_count ns ys then each_told w (spec_type w u) ns ys else where_typed (all_typed w ys) (all_in_flaws w ys) (flaw (spec_place ns at) 84 ∷ [])) (HasSpecTypeFault w u f)
+      both f (spec_type_flaws w u) (if names_count ns ys then each_told w (spec_type w u) ns ys else count_told (spec_type w u) (spec_place ns at) (all_typed w ys) (all_in_flaws w ys)) (HasSpecTypeFault w u f)
       (HasValuesFault at w ns (spec_type w u) ys (names_count ns ys) f) (spec_type_exact f w u) (by_test (names_count ns ys))
     where
-      by_test : (c : Bool) → IsIn f (if c then each_told w (spec_type w u) ns ys else where_typed (all_typed w ys) (all_in_flaws w ys) (flaw (spec_place ns at) 84 ∷ [])) ↔ HasValuesFault at w ns (spec_type w u) ys c f
+      by_test : (c : Bool) → IsIn f (if c then each_told w (spec_type w u) ns ys else count_told (spec_type w u) (spec_place ns at) (all_typed w ys) (all_in_flaws w ys)) ↔ HasValuesFault at w ns (spec_type w u) ys c f
       by_test true = constants_exact f w (spec_type w u) ns ys
-      by_test false = count_exact (all_typed w ys) (all_in_flaws w ys) (SomeNodeFault w ys) (λ h. nodes_exact w ys h) (flaw (spec_place ns at) 84) f
+      by_test false = count_exact (spec_known (spec_type w u) && all_typed w ys) (all_in_flaws w ys) (SomeNodeFault w ys) (λ h. nodes_exact w ys h) (flaw (spec_place ns at) 84) f
 
   specs_exact : (at : Place) (k : ℕ) (w : Walk) (u : t.MaybeExpr) (ys : t.Exprs) (vs : t.ValueSpecs) → IsIn f (specs_told at k w u ys vs) ↔ SomeSpecFault at k w u ys vs f
   specs_exact at k w u ys t.NoValues = same f ⊥

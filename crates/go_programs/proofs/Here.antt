@@ -28,7 +28,7 @@ use Rattle.go_typing.specs.Faulty.{IsIn}
 use Rattle.go_statements.specs.Walk.{Walk}
 use Rattle.go_statements.specs.Expressions.{Valued, answer_in, flaws_in, value_at, value_alone, type_in, core_of, type_of, several_types}
 use Rattle.go_statements.specs.Assign.{where_typed, all_typed, all_in_flaws}
-use Rattle.go_statements.specs.Declare.{SpecType, no_type, of_type, lost_type, spec_type_of, spec_type, spec_type_flaws, constant_flaws, constant_value}
+use Rattle.go_statements.specs.Declare.{SpecType, no_type, of_type, lost_type, spec_type_of, spec_type, spec_known, spec_type_flaws, constant_flaws, constant_value}
 use Rattle.go_sound.specs.Added.{TypeIsSet, TypesAreSet}
 use Rattle.go_sound.specs.SoundTyped.{is_binary, HasOperators, BoundHasOperators, IsScalarType, AreScalarTypes, IsConstantOf}
 use Rattle.go_sound.specs.SoundValues.{IsReady, IsAnyValue}
@@ -44,6 +44,9 @@ use Rattle.go_sound.proofs.SoundBodies.{value_of, wanted_form, set_again, sets_a
 -- ---- nothing is told
 
 -- a fault of a statement whose parts are typed where nothing is told of them
+both_hold : (b c : Bool) → b ≡ true → c ≡ true → (b && c) ≡ true
+both_hold b c p q = ap (λ (x : Bool). x && c) p ∙ q
+
 pub typed_told : (b : Bool) (parts gs : List Flaw) → (parts ≡ [] → b ≡ true) → where_typed b parts gs ≡ [] → gs ≡ []
 typed_told true [] gs k h = h
 typed_told true (f ∷ fs) gs k h = cc
@@ -130,13 +133,17 @@ module _ (p : CoreProgram) (a : node.Around) (w : Walk) (r : IsReady p a w) wher
   pub never_told : (es : t.Exprs) (f : Flaw) → where_typed (all_typed w es) (all_in_flaws w es) (f ∷ []) ≡ [] → ⊥
   never_told es f h = let e : f ∷ [] ≡ [] = typed_told (all_typed w es) (all_in_flaws w es) (f ∷ []) (all_known_untold es) h in cc
 
-  pub never_told_after : (fs : List Flaw) (es : t.Exprs) (f : Flaw) → where_typed (all_typed w es) (fs ++ all_in_flaws w es) (f ∷ []) ≡ [] → ⊥
-  never_told_after fs es f h =
-      let e : f ∷ [] ≡ [] = typed_told (all_typed w es) (fs ++ all_in_flaws w es) (f ∷ []) (λ k. all_known_untold es (no_second fs (all_in_flaws w es) k)) h in cc
+  -- where what else is a part is typed
+  pub never_told_with : (b : Bool) (es : t.Exprs) (f : Flaw) → b ≡ true → where_typed (b && all_typed w es) (all_in_flaws w es) (f ∷ []) ≡ [] → ⊥
+  never_told_with b es f k h = let e : f ∷ [] ≡ [] = typed_told (b && all_typed w es) (all_in_flaws w es) (f ∷ []) (λ q. both_hold b (all_typed w es) k (all_known_untold es q)) h in cc
 
-  pub never_told_before : (fs : List Flaw) (es : t.Exprs) (f : Flaw) → where_typed (all_typed w es) (all_in_flaws w es ++ fs) (f ∷ []) ≡ [] → ⊥
-  never_told_before fs es f h =
-      let e : f ∷ [] ≡ [] = typed_told (all_typed w es) (all_in_flaws w es ++ fs) (f ∷ []) (λ k. all_known_untold es (no_first (all_in_flaws w es) fs k)) h in cc
+  pub never_told_after : (b : Bool) (fs : List Flaw) (es : t.Exprs) (f : Flaw) → (fs ≡ [] → b ≡ true) → where_typed (b && all_typed w es) (fs ++ all_in_flaws w es) (f ∷ []) ≡ [] → ⊥
+  never_told_after b fs es f k h =
+      let e : f ∷ [] ≡ [] = typed_told (b && all_typed w es) (fs ++ all_in_flaws w es) (f ∷ []) (λ q. both_hold b (all_typed w es) (k (no_first fs (all_in_flaws w es) q)) (all_known_untold es (no_second fs (all_in_flaws w es) q))) h in cc
+
+  pub never_told_before : (b : Bool) (fs : List Flaw) (es : t.Exprs) (f : Flaw) → (fs ≡ [] → b ≡ true) → where_typed (b && all_typed w es) (all_in_flaws w es ++ fs) (f ∷ []) ≡ [] → ⊥
+  never_told_before b fs es f k h =
+      let e : f ∷ [] ≡ [] = typed_told (b && all_typed w es) (all_in_flaws w es ++ fs) (f ∷ []) (λ q. both_hold b (all_typed w es) (k (no_second (all_in_flaws w es) fs q)) (all_known_untold es (no_first (all_in_flaws w es) fs q))) h in cc
 
   -- ---- types
 
@@ -165,6 +172,11 @@ module _ (p : CoreProgram) (a : node.Around) (w : Walk) (r : IsReady p a w) wher
   SpecHere no_type = Unit {0}
   SpecHere (of_type u) = IsScalarType p u × TypeIsSet w.names u
   SpecHere lost_type = ⊥
+
+  pub spec_is_known : (s : SpecType) → SpecHere s → spec_known s ≡ true
+  spec_is_known no_type h = refl
+  spec_is_known (of_type u) h = refl
+  spec_is_known lost_type h = absurd h
 
   spec_of_type : (o : Option Ty) → IsAType o → SpecHere (spec_type_of o)
   spec_of_type o h = subst (λ (x : Option Ty). SpecHere (spec_type_of x)) (sym h.found) (h.scalar, h.set)

@@ -14,8 +14,8 @@ use Rattle.go_typing.specs.Typing.{place_of, typing, flaws}
 use Rattle.go_typing.specs.Faulty.{IsIn}
 use Rattle.go_statements.specs.Walk.{Walk}
 use Rattle.go_statements.specs.Expressions.{answer_in, flaws_in, value_at, type_in, type_of}
-use Rattle.go_statements.specs.Assign.{where_typed, all_typed, all_in_flaws}
-use Rattle.go_statements.specs.Declare.{SpecType, no_type, of_type, lost_type, spec_type_of, spec_type, spec_type_flaws, counting, with_iota, constant_flaws, constant_value, constant_decl, names_count, spec_place}
+use Rattle.go_statements.specs.Assign.{all_typed, all_in_flaws}
+use Rattle.go_statements.specs.Declare.{SpecType, no_type, of_type, lost_type, spec_type_of, spec_type, spec_type_flaws, counting, with_iota, constant_flaws, constant_value, constant_decl, spec_known, names_count, spec_place, count_told}
 use Rattle.go_packages.specs.Signature.{Param, and_type, types_of, params_of, results_of, results_in, grouped, list_flaws, results_place, params_flaws, sig_flaws, SigTypes, both, where_untold, sig_types}
 use Rattle.go_packages.specs.Items.{Item, constant_item, type_item, alias_item, function_item, variable_item, init_item, is_init, each_name, spec_items, constant_items, type_items, types_after, items_from}
 use Rattle.go_packages.specs.Known.{Known, outside, named_type, type_found, type_decl, alias_decl, function_decl, decl_of}
@@ -41,7 +41,8 @@ universe_of k = universe None ∷ k.binds ∷ []
 abbrev pub ItemFine : Known → Item → Type 0
 ItemFine k (constant_item n j u (Some y) all) =
     BoundHasOperators u × HasOperators y × (spec_type_flaws (counting j (outside k)) u ≡ []) × ((constant_value (counting j (outside k)) (spec_type (counting j (outside k)) u) y).flaws ≡ [])
-ItemFine k (constant_item n j u None all) = (f : Flaw) × (where_typed (all_typed (counting j (outside k)) all) (all_in_flaws (counting j (outside k)) all) (f ∷ []) ≡ [])
+ItemFine k (constant_item n j u None all) =
+    (spec_type_flaws (counting j (outside k)) u ≡ []) × (at : Place) × (count_told (spec_type (counting j (outside k)) u) at (all_typed (counting j (outside k)) all) (all_in_flaws (counting j (outside k)) all) ≡ [])
 ItemFine k (type_item n j e) = HasOperators e × ((type_in (outside k) e).flaws ≡ [])
 ItemFine k (alias_item n e) = HasOperators e × ((type_in (outside k) e).flaws ≡ [])
 ItemFine k (function_item n id s) = SigOfGrammar s × (sig_flaws (outside k) s ≡ [])
@@ -71,9 +72,10 @@ module _ (k : Known) where
   each_fine j u all o e (x ∷ ns) (t.MoreExprs y ys) q n h =
       let f = (constant_value (counting j (outside k)) (spec_type (counting j (outside k)) u) y).flaws in ((o, q.0, e, no_first f _ h), each_fine j u all o e ns ys q.1 n (no_second f _ h))
 
-  lost_fine : (j : ℕ) (u : t.MaybeExpr) (all : t.Exprs) (f : Flaw) → where_typed (all_typed (counting j (outside k)) all) (all_in_flaws (counting j (outside k)) all) (f ∷ []) ≡ [] → (ns : List Name) → AllItems (ItemFine k) (each_name j u all ns t.NoExprs)
-  lost_fine j u all f h [] = tt
-  lost_fine j u all f h (x ∷ ns) = ((f, h), lost_fine j u all f h ns)
+  lost_fine : (j : ℕ) (u : t.MaybeExpr) (all : t.Exprs) (at : Place) → spec_type_flaws (counting j (outside k)) u ≡ [] → count_told (spec_type (counting j (outside k)) u) at (all_typed (counting j (outside k)) all) (all_in_flaws (counting j (outside k)) all) ≡ [] → (ns : List Name)
+      → AllItems (ItemFine k) (each_name j u all ns t.NoExprs)
+  lost_fine j u all at e h [] = tt
+  lost_fine j u all at e h (x ∷ ns) = ((e, at, h), lost_fine j u all at e h ns)
 
   spec_fine : (at : Place) (j : ℕ) (u : t.MaybeExpr) (ns : List Name) (ys : t.Exprs) → BoundHasOperators u → AllHaveOperators ys → spec_told at (counting j (outside k)) ns u ys ≡ [] → AllItems (ItemFine k) (spec_items j u ns ys)
   spec_fine at j u ns ys o q h = by_test (names_count ns ys) refl (no_second (spec_type_flaws (counting j (outside k)) u) _ h)
@@ -81,9 +83,9 @@ module _ (k : Known) where
       w : Walk
       w = counting j (outside k)
 
-      by_test : (c : Bool) → names_count ns ys ≡ c → (if c then each_told w (spec_type w u) ns ys else where_typed (all_typed w ys) (all_in_flaws w ys) (flaw (spec_place ns at) 84 ∷ [])) ≡ [] → AllItems (ItemFine k) (each_name j u ys ns (if c then ys else t.NoExprs))
+      by_test : (c : Bool) → names_count ns ys ≡ c → (if c then each_told w (spec_type w u) ns ys else count_told (spec_type w u) (spec_place ns at) (all_typed w ys) (all_in_flaws w ys)) ≡ [] → AllItems (ItemFine k) (each_name j u ys ns (if c then ys else t.NoExprs))
       by_test true e g = each_fine j u ys o (no_first (spec_type_flaws (counting j (outside k)) u) _ h) ns ys q e g
-      by_test false e g = lost_fine j u ys (flaw (spec_place ns at) 84) g ns
+      by_test false e g = lost_fine j u ys (spec_place ns at) (no_first (spec_type_flaws (counting j (outside k)) u) _ h) g ns
 
   constants_fine : (at : Place) (j : ℕ) (u : t.MaybeExpr) (ys : t.Exprs) (vs : t.ValueSpecs) → BoundHasOperators u → AllHaveOperators ys → ValuesOfGrammar vs → specs_told at j (outside k) u ys vs ≡ [] → AllItems (ItemFine k) (constant_items j u ys vs)
   constants_fine at j u ys t.NoValues o q g h = tt
@@ -171,6 +173,11 @@ module _ (k : Known) where
   spec_not_lost j t.NoExpr n h = tt
   spec_not_lost j (t.AnExpr e) n h = let f = counted_type j e n h in subst (λ (o : Option Ty). NotLost (spec_type_of o)) (sym f.1) tt
 
+  not_lost_known : (s : SpecType) → NotLost s → spec_known s ≡ true
+  not_lost_known no_type h = refl
+  not_lost_known (of_type u) h = refl
+  not_lost_known lost_type h = absurd h
+
   not_unknown : (d : Decl) → is_unknown d ≡ false → d ≡ unknown → ⊥
   not_unknown d h e = let f : true ≡ false = sym (ap is_unknown e) ∙ h in cc
 
@@ -246,8 +253,10 @@ module _ (k : Known) where
   item_known (constant_item x j u (Some y) all) f n m =
       not_unknown _ (value_known j (spec_type (counting j (outside k)) u) y (spec_not_lost j u (none_left (universe_of k) (needed_bound (universe_of k) u) (needed (universe_of k) y) n) f.2) (none_right (universe_of k) (needed_bound (universe_of k) u) (needed (universe_of k) y) n) f.3) m
   item_known (constant_item x j u None all) f n m =
-      let g : f.0 ∷ [] ≡ [] =
-      typed_told (all_typed (counting j (outside k)) all) (all_in_flaws (counting j (outside k)) all) (f.0 ∷ []) (λ h. all_counted_known j all (none_right (universe_of k) (needed_bound (universe_of k) u) (needed_all (universe_of k) all) n) h) f.1 in
+      let s = not_lost_known (spec_type (counting j (outside k)) u) (spec_not_lost j u (none_left (universe_of k) (needed_bound (universe_of k) u) (needed_all (universe_of k) all) n) f.0) in
+      let g : flaw f.1 84 ∷ [] ≡ [] =
+      typed_told (spec_known (spec_type (counting j (outside k)) u) && all_typed (counting j (outside k)) all) (all_in_flaws (counting j (outside k)) all) (flaw f.1 84 ∷ [])
+      (λ h. ap (λ (b : Bool). b && all_typed (counting j (outside k)) all) s ∙ all_counted_known j all (none_right (universe_of k) (needed_bound (universe_of k) u) (needed_all (universe_of k) all) n) h) f.2 in
       cc
   item_known (type_item x j e) f n m = let u = outside_type e n f.1 in not_unknown _ (ap (λ (o : Option Ty). is_unknown (type_decl (named_type j) o)) u.1) m
   item_known (alias_item x e) f n m = let u = outside_type e n f.1 in not_unknown _ (ap (λ (o : Option Ty). is_unknown (alias_decl o)) u.1) m

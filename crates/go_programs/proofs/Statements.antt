@@ -34,9 +34,9 @@ use Rattle.go_programs.specs.Grammar.{IsSimple, StmtOfGrammar, MaybeOfGrammar, B
 use Rattle.go_programs.specs.SoundStatements.{Holds, StatementsAreSound}
 use Rattle.go_programs.proofs.Words.{at_vars, after_vars, one_of_three, two_of_three}
 use Rattle.go_programs.proofs.Ready.{Adds, State, Like, ready_like, adds_like, adds_then, like_left, like_uses_all, type_still, state_like, ready_around, holds_part, names_of, state_on, state_later, state_pushed, holds_inside, Done, Says, says, done_none, done_then, done_within}
-use Rattle.go_programs.proofs.Here.{any_there, never_told}
+use Rattle.go_programs.proofs.Here.{any_there}
 use Rattle.go_programs.proofs.Stores.{assign_done, update_done, step_done}
-use Rattle.go_programs.proofs.Defines.{alone_value, define_done}
+use Rattle.go_programs.proofs.Defines.{alone_value, define_done, none_undeclared}
 use Rattle.go_programs.proofs.ConstDecls.{decl_done}
 use Rattle.go_programs.proofs.Calls.{expression_done, returned_done, break_done, continue_done}
 use Rattle.go_programs.proofs.Control.{relabeled, DoneBy, OnBy, if_says, for_says, ClausesSay, clauses_none, one_clause_says, switch_at, switch_says}
@@ -103,7 +103,7 @@ post_scopes (t.AStmt (t.LabeledStmt at n s)) a w i = absurd i
 
 -- a short declaration is told where a turn ends
 post_done : (p : CoreProgram) (a : node.Around) (b : Around) (s : t.MaybeStmt) (post : Walk → Did) → DoneBy p a b post → DoneBy p a b (post_did s post)
-post_done p a b (t.AStmt (t.DefineStmt at xs ys)) post d vs w st k h = absurd (never_told p (at_vars a vs) w st.ready ys (flaw (first_place xs at) 83) h)
+post_done p a b (t.AStmt (t.DefineStmt at xs ys)) post d vs w st k h = absurd (none_undeclared p a vs b w st at xs ys h)
 post_done p a b _ post d vs w st k h = d vs w st k h
 
 -- what is known goes on from the initial statement

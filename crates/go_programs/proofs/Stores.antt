@@ -15,9 +15,9 @@ use Rattle.go_typing.specs.Env.{Decl, variable, global, constant, type_name, fun
 use Rattle.go_typing.specs.Env as env
 use Rattle.go_typing.specs.Answer.{Flaw, flaw, Part, is_known, blank, own}
 use Rattle.go_typing.specs.Typing.{place_of, declared_row, operator_row}
-use Rattle.go_statements.specs.Walk.{Walk, Around, uses, uses_all}
+use Rattle.go_statements.specs.Walk.{Walk, Around, is_there, uses, uses_all}
 use Rattle.go_statements.specs.Expressions.{answer_in, flaws_in, value_at, value_alone, core_of}
-use Rattle.go_statements.specs.Assign.{Left, left_blank, left_place, left_wrong, left_declared, left_of, left_flaws, target_of, left_uses, value_for, assigned_each, count_of, takes, all_take, same_number, lefts_flaws, targets_of, miscounted, store_did, call_assigned, several_right, first_right, assign_by, assign, updated, update_left, update, one_, step_op, step}
+use Rattle.go_statements.specs.Assign.{Left, left_blank, left_place, left_wrong, left_declared, left_of, left_flaws, target_of, is_left, left_uses, value_for, assigned_each, count_of, takes, all_take, same_number, lefts_typed, lefts_flaws, targets_of, miscounted, store_did, call_assigned, several_right, first_right, assign_by, assign, updated, update_left, update, one_, step_op, step, Fresh, blank_name, name_of, fresh_by, fresh_of, no_name_flaws, names_flaws, side_typed, sides_typed, fresh_flaws, old_flaws}
 use Rattle.go_sound.specs.Added.{TypeIsSet, DeclIsSet}
 use Rattle.go_sound.specs.SoundTyped.{is_binary, HasOperators, AllHaveOperators, IsScalarType, OptionIsSound}
 use Rattle.go_sound.specs.SoundValues.{IsReady}
@@ -85,6 +85,38 @@ module _ (p : CoreProgram) (a : node.Around) (w : Walk) (r : IsReady p a w) wher
       by_test false k = declared_here (t.NameExpr at x) (lookup x w.scopes) (r.scopes x) (λ d e. r.types_set x d e) k
   left_here (t.ParenExpr at e) h = left_here e h
   left_here e h = absurd (wrong_told e h)
+
+  left_typed : (l : Left) → LeftHere l → is_left l ≡ true
+  left_typed left_blank h = refl
+  left_typed (left_place q u) h = refl
+  left_typed (left_wrong fs) h = absurd h
+
+  pub left_untold : (x : t.Expr) → left_flaws (left_of w x) ≡ [] → is_left (left_of w x) ≡ true
+  left_untold x h = left_typed (left_of w x) (left_here x h)
+
+  pub lefts_untold : (xs : t.Exprs) → lefts_flaws w xs ≡ [] → lefts_typed w xs ≡ true
+  lefts_untold t.NoExprs h = refl
+  lefts_untold (t.MoreExprs x xs) h =
+      ap (λ (b : Bool). b && lefts_typed w xs) (left_untold x (no_first (left_flaws (left_of w x)) (lefts_flaws w xs) h)) ∙ lefts_untold xs (no_second (left_flaws (left_of w x)) (lefts_flaws w xs) h)
+
+  -- ---- names on the left of `:=`
+
+  other_told : (e : t.Expr) → no_name_flaws w e ≡ [] → ⊥
+  other_told e h =
+      let k = known_where_untold p a w r e (no_first (flaws_in w e) _ h) in
+      let f : flaw (place_of e) 83 ∷ [] ≡ [] = subst (λ (b : Bool). (if b then flaw (place_of e) 83 ∷ [] else []) ≡ []) k (no_second (flaws_in w e) _ h) in cc
+
+  side_untold : (at : Place) (x : List ℕ) (c : Bool) (o : Option Place) → fresh_flaws w (if c then blank_name else fresh_by at x o) ≡ [] → side_typed w (if c then blank_name else fresh_by at x o) ≡ true
+  side_untold at x true o h = refl
+  side_untold at x false None h = refl
+  side_untold at x false (Some p) h = left_untold (t.NameExpr at x) h
+
+  pub sides_untold : (seen : List (List ℕ)) (xs : t.Exprs) → names_flaws w seen xs ≡ [] → old_flaws w xs ≡ [] → sides_typed w xs ≡ true
+  sides_untold seen t.NoExprs h k = refl
+  sides_untold seen (t.MoreExprs (t.NameExpr at x) es) h k =
+      ap (λ (b : Bool). b && sides_typed w es) (side_untold at x (is_blank x) (is_there (name_of at x) w) (no_first (fresh_flaws w (fresh_of w (t.NameExpr at x))) (old_flaws w es) k))
+      ∙ sides_untold (x ∷ seen) es (no_second _ (names_flaws w (x ∷ seen) es) h) (no_second (fresh_flaws w (fresh_of w (t.NameExpr at x))) (old_flaws w es) k)
+  sides_untold seen (t.MoreExprs e es) h k = absurd (other_told e (no_first (no_name_flaws w e) (names_flaws w seen es) h))
 
   -- a variable that is assigned is typed
   abbrev pub IsAPlace : Left → Type 0
@@ -156,7 +188,7 @@ module _ (p : CoreProgram) (a : node.Around) (vs : List Var) (b : Around) (w : W
   -- ---- `xs = ys`
 
   no_count : (at : Place) (xs ys : t.Exprs) (u : Walk) → (miscounted at w xs ys u).flaws ≡ [] → ⊥
-  no_count at xs ys u h = never_told_after p (at_vars a vs) w s.ready (lefts_flaws w xs) ys (flaw at 84) h
+  no_count at xs ys u h = never_told_after p (at_vars a vs) w s.ready (lefts_typed w xs) (lefts_flaws w xs) ys (flaw at 84) (lefts_untold p (at_vars a vs) w s.ready xs) h
 
   call_done : (at : Place) (xs : t.Exprs) (y : t.Expr) (us : Tys) (u : Walk) → Like w u → AreSeveralHere p (at_vars a vs) w s.ready (core_of (answer_in w y)) us → (call_assigned at w xs y us u).flaws ≡ []
       → Done p a vs w (call_assigned at w xs y us u)

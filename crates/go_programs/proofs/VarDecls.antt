@@ -14,8 +14,8 @@ use Rattle.go_typing.specs.Answer.{flaw}
 use Rattle.go_typing.specs.Typing.{place_of}
 use Rattle.go_statements.specs.Walk.{Walk, Around, Did, and_then, is_there, redeclared, var_of, with_variable, uses_all}
 use Rattle.go_statements.specs.Expressions.{answer_in, value_at, value_alone, type_in, core_of, type_of}
-use Rattle.go_statements.specs.Assign.{several_right, first_right, Defined, all_typed, all_in_flaws, where_typed}
-use Rattle.go_statements.specs.Declare.{SpecType, no_type, of_type, lost_type, spec_type_of, spec_type, spec_type_flaws, type_uses, spec_value, spec_var_type, declare_one, declare_stmts, declare_target, var_each, var_zero, fits_spec, spec_or, var_types, names_count, names_number, var_miscounted, var_by, var_values, var_spec, var_specs, spec_place}
+use Rattle.go_statements.specs.Assign.{several_right, first_right, Defined, all_typed, all_in_flaws}
+use Rattle.go_statements.specs.Declare.{SpecType, no_type, of_type, lost_type, spec_type_of, spec_type, spec_type_flaws, type_uses, spec_value, spec_var_type, declare_one, declare_stmts, declare_target, var_each, var_zero, fits_spec, spec_or, var_types, names_count, names_number, var_miscounted, var_by, var_values, var_spec, var_specs, spec_place, spec_known, count_told}
 use Rattle.go_sound.specs.Added.{TypeIsSet, TypesAreSet}
 use Rattle.go_sound.specs.GoesOn.{GoesOn}
 use Rattle.go_sound.specs.SoundTyped.{HasOperators, AllHaveOperators, BoundHasOperators, IsScalarType, AreScalarTypes}
@@ -28,7 +28,7 @@ use Rattle.go_programs.specs.Grammar.{IsTypedOrValued, VarsOfGrammar}
 use Rattle.go_programs.specs.SoundStatements.{Holds}
 use Rattle.go_programs.proofs.Words.{at_vars, after_vars, extends_var}
 use Rattle.go_programs.proofs.Ready.{State, Like, like_same, like_then, like_uses, like_uses_all, holds_part, Done, done_none, done_then, state_on, Scoped, scoped_like, done_scoped, done_also, done_like}
-use Rattle.go_programs.proofs.Here.{SpecHere, spec_there, value_there, any_there, never_told, AreSeveralHere, several_there}
+use Rattle.go_programs.proofs.Here.{SpecHere, spec_there, value_there, any_there, never_told_with, spec_is_known, AreSeveralHere, several_there}
 use Rattle.go_programs.proofs.Defines.{At, at_state, DefinedHere, TypesHere, Others, OthersOf, defined_none, types_none, new_here, types_new, alone_value, stored_done, call_here, IsCall, right_call, scoped_variable, held_variable, variable_names, adds_variable}
 
 module _ (p : CoreProgram) (a : node.Around) (w : Walk) where
@@ -142,14 +142,14 @@ like_parts ys u w = like_then w (type_uses u w) (uses_all ys (type_uses u w)) (l
 abbrev var_call_if : Place → Walk → SpecType → List Name → t.Expr → Tys → Walk → Bool → Did
 var_call_if at w s ns y ts u c =
     if c then (let d = var_types s y ns ts u in record { core = d.before ++ core.store d.targets (core.expr (core_of (answer_in w y)) core.no_exprs) ∷ []; flaws = d.flaws; walk = d.walk })
-    else var_miscounted at w ns (t.MoreExprs y t.NoExprs) u
+    else var_miscounted at w s ns (t.MoreExprs y t.NoExprs) u
 
 abbrev var_each_if : Place → Walk → SpecType → List Name → t.Exprs → Walk → Bool → Did
-var_each_if at w s ns ys u c = if c then (let d = var_each w s ns ys u in record { core = d.before ++ core.store d.targets d.values ∷ []; flaws = d.flaws; walk = d.walk }) else var_miscounted at w ns ys u
+var_each_if at w s ns ys u c = if c then (let d = var_each w s ns ys u in record { core = d.before ++ core.store d.targets d.values ∷ []; flaws = d.flaws; walk = d.walk }) else var_miscounted at w s ns ys u
 
 module _ (p : CoreProgram) (a : node.Around) (vs : List Var) (b : Around) (w : Walk) (st : State p a vs b w) where
-  no_count : (at : Place) (ns : List Name) (ys : t.Exprs) (u : Walk) → (var_miscounted at w ns ys u).flaws ≡ [] → ⊥
-  no_count at ns ys u h = never_told p (at_vars a vs) w st.ready ys (flaw (spec_place ns at) 84) (no_first (where_typed (all_typed w ys) (all_in_flaws w ys) (flaw (spec_place ns at) 84 ∷ [])) _ h)
+  no_count : (at : Place) (s : SpecType) (ns : List Name) (ys : t.Exprs) (u : Walk) → SpecHere p (at_vars a vs) w st.ready s → (var_miscounted at w s ns ys u).flaws ≡ [] → ⊥
+  no_count at s ns ys u i h = never_told_with p (at_vars a vs) w st.ready (spec_known s) ys (flaw (spec_place ns at) 84) (spec_is_known p (at_vars a vs) w st.ready s i) (no_first (count_told s (spec_place ns at) (all_typed w ys) (all_in_flaws w ys)) _ h)
 
   by_done : (at : Place) (s : SpecType) (ns : List Name) (ys : t.Exprs) (u : Walk) → Like w u → AllHaveOperators ys → SpecHere p (at_vars a vs) w st.ready s → (o : Option Tys) → several_right w ys ≡ o → Holds p a.declarable u (var_by at w s ns ys o u).walk
       → (var_by at w s ns ys o u).flaws ≡ [] → Done p a vs w (var_by at w s ns ys o u)
@@ -159,7 +159,7 @@ module _ (p : CoreProgram) (a : node.Around) (vs : List Var) (b : Around) (w : W
       by_count true j g =
           stored_done p a w vs u (var_each w s ns ys u).before (var_each w s ns ys u).targets (var_each w s ns ys u).values _ (var_each w s ns ys u).walk l
           (each_here p a w s ns ys q vs st.ready i vs u (at_state p a w vs b u l st) j g)
-      by_count false j g = absurd (no_count at ns ys u g)
+      by_count false j g = absurd (no_count at s ns ys u i g)
   by_done at s ns ys u l q i (Some ts) e k h = by_number (names_number ns ts) refl k h
     where
       y : t.Expr
@@ -177,7 +177,7 @@ module _ (p : CoreProgram) (a : node.Around) (vs : List Var) (b : Around) (w : W
           stored_done p a w vs u (var_types s y ns ts u).before (var_types s y ns ts u).targets (core.expr (core_of (answer_in w y)) core.no_exprs) _ (var_types s y ns ts u).walk l
           (call_here p a w vs u (var_types s y ns ts u).before (var_types s y ns ts u).targets ts y (var_types s y ns ts u).walk h2 call.has_operators call.several
           (each_type_here p a w s y ns ts n several.scalar several.set vs st.ready i vs u h2 j g))
-      by_number false n j g = absurd (no_count at ns (t.MoreExprs y t.NoExprs) u g)
+      by_number false n j g = absurd (no_count at s ns (t.MoreExprs y t.NoExprs) u i g)
 
   zero_values : (e : t.Expr) (ns : List Name) (u : Walk) → Like w u → (o : Option Ty) → SpecHere p (at_vars a vs) w st.ready (spec_type_of o) → Holds p a.declarable u (var_zero (spec_type_of o) ns u).walk → (var_zero (spec_type_of o) ns u).flaws ≡ []
       → Done p a vs w (var_zero (spec_type_of o) ns u)

@@ -1,6 +1,6 @@
 -- Go specification (as of Go 1.17), "Constant declarations", "Type declarations", "Function declarations", "Program execution": which
 -- declarations of a package are faulty, said apart from the order in which this is told.
-use Rattle.std.specs.Prelude.{◌++◌, ◌≡◌, ◌<◌, ◌⊎◌, ◌↔◌, ℕ, suc, ◌+◌, List, [], ◌∷◌, Bool, true, false, if◌then◌else◌, Option, Some, None}
+use Rattle.std.specs.Prelude.{◌++◌, ◌≡◌, ◌<◌, ◌⊎◌, ◌↔◌, ℕ, suc, ◌+◌, List, [], ◌∷◌, Bool, true, false, ◌&&◌, if◌then◌else◌, Option, Some, None}
 use Rattle.gj_base.specs.declared.place.Place.{Place}
 use Rattle.go_syntax.specs.Tree as t
 use Rattle.go_syntax.specs.declared.tree.Name.{Name}
@@ -14,7 +14,7 @@ use Rattle.go_typing.specs.Faulty.{IsIn, HasFault, HasFaultAt}
 use Rattle.go_statements.specs.Walk.{Walk}
 use Rattle.go_statements.specs.Expressions.{answer_in, value_at}
 use Rattle.go_statements.specs.Assign.{all_typed}
-use Rattle.go_statements.specs.Declare.{SpecType, no_type, of_type, lost_type, spec_type, counting, constant_flaws, names_count, spec_place}
+use Rattle.go_statements.specs.Declare.{SpecType, no_type, of_type, lost_type, spec_type, counting, constant_flaws, spec_known, names_count, spec_place}
 use Rattle.go_packages.specs.Signature.{SigTypes, sig_flaws, sig_types, params_of, results_of, all_bound, inside}
 use Rattle.go_packages.specs.Items.{is_init, items_of}
 use Rattle.go_packages.specs.Known.{outside}
@@ -54,13 +54,13 @@ abbrev pub SomeNodeFault : Walk → t.Exprs → Flaw → Type 0
 SomeNodeFault w t.NoExprs f = ⊥
 SomeNodeFault w (t.MoreExprs y ys) f = HasFault w.names w.scopes y f ⊎ SomeNodeFault w ys f
 
--- not as many values as names (84), where each is typed and none has a fault
-abbrev pub HasCountFault : Place → Walk → List Name → t.Exprs → Flaw → Type 0
-HasCountFault at w ns ys f = SomeNodeFault w ys f ⊎ (all_typed w ys ≡ true) × ((g : Flaw) → SomeNodeFault w ys g → ⊥) × (f ≡ flaw (spec_place ns at) 84)
+-- not as many values as names (84), where the type and each value is typed and no value has a fault
+abbrev pub HasCountFault : Place → Walk → List Name → SpecType → t.Exprs → Flaw → Type 0
+HasCountFault at w ns s ys f = SomeNodeFault w ys f ⊎ ((spec_known s && all_typed w ys) ≡ true) × ((g : Flaw) → SomeNodeFault w ys g → ⊥) × (f ≡ flaw (spec_place ns at) 84)
 
 abbrev pub HasValuesFault : Place → Walk → List Name → SpecType → t.Exprs → (as_many : Bool) → Flaw → Type 0
 HasValuesFault at w ns s ys true f = SomeConstantFault w s ns ys f
-HasValuesFault at w ns s ys false f = HasCountFault at w ns ys f
+HasValuesFault at w ns s ys false f = HasCountFault at w ns s ys f
 
 abbrev pub HasSpecFault : Place → Walk → List Name → t.MaybeExpr → t.Exprs → Flaw → Type 0
 HasSpecFault at w ns u ys f = HasSpecTypeFault w u f ⊎ HasValuesFault at w ns (spec_type w u) ys (names_count ns ys) f

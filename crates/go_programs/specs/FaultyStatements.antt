@@ -13,7 +13,7 @@ use Rattle.go_typing.specs.Typing.{place_of}
 use Rattle.go_typing.specs.Faulty.{IsIn, HasFault}
 use Rattle.go_statements.specs.Walk.{Walk, Around, fresh, pushed, within, uses, uses_all, unused}
 use Rattle.go_statements.specs.Expressions.{value_alone, condition}
-use Rattle.go_statements.specs.Assign.{assign, update, step, define, where_typed, all_typed, all_in_flaws, first_place}
+use Rattle.go_statements.specs.Assign.{assign, update, step, define, undeclared}
 use Rattle.go_statements.specs.Declare.{decl}
 use Rattle.go_statements.specs.Labels.{label_of, labels_told}
 use Rattle.go_statements.specs.Statements.{expression, unlabeled, with_target, next_label, condition_uses, post_did, tag_of, case_answer, case_constant, repeated, and_constant, case_tests, falls, is_last, is_default, returned, branch, stmt, maybe, block, stmts, clause_stmts, many_told, missing_return, function_body}
@@ -24,7 +24,7 @@ HasConditionFault w (t.AnExpr x) f = IsIn f (condition w x).flaws
 
 -- a short declaration is no statement after a turn (83); Fault: what else is faulty
 abbrev pub HasPostFault : t.MaybeStmt → Walk → Flaw → (Fault : Type 0) → Type 0
-HasPostFault (t.AStmt (t.DefineStmt at xs ys)) w f Fault = IsIn f (where_typed (all_typed w ys) (all_in_flaws w ys) (flaw (first_place xs at) 83 ∷ []))
+HasPostFault (t.AStmt (t.DefineStmt at xs ys)) w f Fault = IsIn f (undeclared at xs ys w).flaws
 HasPostFault s w f Fault = Fault
 
 abbrev pub HasTagFault : Walk → t.MaybeExpr → Flaw → Type 0

@@ -120,9 +120,13 @@ abbrev pub where_typed : Bool → List Flaw → List Flaw → List Flaw
 where_typed true [] fs = fs
 where_typed _ parts fs = parts
 
+abbrev pub lefts_typed : Walk → t.Exprs → Bool
+lefts_typed w t.NoExprs = true
+lefts_typed w (t.MoreExprs x xs) = is_left (left_of w x) && lefts_typed w xs
+
 -- the counts of left and right differ (84)
 abbrev pub miscounted : Place → Walk → t.Exprs → t.Exprs → Walk → Did
-miscounted at w xs ys u = faulty (where_typed (all_typed w ys) (lefts_flaws w xs ++ all_in_flaws w ys) (flaw at 84 ∷ [])) u
+miscounted at w xs ys u = faulty (where_typed (lefts_typed w xs && all_typed w ys) (lefts_flaws w xs ++ all_in_flaws w ys) (flaw at 84 ∷ [])) u
 
 abbrev pub store_did : List Flaw → List Target → core.Exprs → Walk → Did
 store_did fs ts es w = record { core = core.store ts es ∷ []; flaws = fs; walk = w }
@@ -234,17 +238,36 @@ abbrev pub any_new : Walk → t.Exprs → Bool
 any_new w t.NoExprs = false
 any_new w (t.MoreExprs e es) = if is_new (fresh_of w e) then true else any_new w es
 
+-- a left side is typed where it declares a name, or is one that can be assigned
+abbrev pub side_typed : Walk → Fresh → Bool
+side_typed w (old_name e) = is_left (left_of w e)
+side_typed w (no_name p) = false
+side_typed w f = true
+
+abbrev pub sides_typed : Walk → t.Exprs → Bool
+sides_typed w t.NoExprs = true
+sides_typed w (t.MoreExprs e es) = side_typed w (fresh_of w e) && sides_typed w es
+
+-- what is told of a name that can't be assigned
+abbrev pub fresh_flaws : Walk → Fresh → List Flaw
+fresh_flaws w (old_name e) = left_flaws (left_of w e)
+fresh_flaws w f = []
+
+abbrev pub old_flaws : Walk → t.Exprs → List Flaw
+old_flaws w t.NoExprs = []
+old_flaws w (t.MoreExprs e es) = fresh_flaws w (fresh_of w e) ++ old_flaws w es
+
 abbrev pub first_place : t.Exprs → Place → Place
 first_place t.NoExprs at = at
 first_place (t.MoreExprs e es) at = place_of e
 
--- a fault of a statement whose values are all typed; these tell their own
+-- a fault of a statement whose parts are all typed; these tell their own
 abbrev pub where_right : Bool → List Flaw → List Flaw → List Flaw
 where_right true [] fs = fs
 where_right _ parts fs = []
 
 abbrev pub none_new : Place → Walk → t.Exprs → t.Exprs → List Flaw
-none_new at w xs ys = where_right (all_typed w ys) (all_in_flaws w ys) (flaw (first_place xs at) 83 ∷ [])
+none_new at w xs ys = where_right (sides_typed w xs && all_typed w ys) (all_in_flaws w ys) (flaw (first_place xs at) 83 ∷ [])
 
 abbrev pub define_flaws : Place → Walk → t.Exprs → t.Exprs → List Flaw
 define_flaws at w xs ys = names_flaws w [] xs ++ (if any_new w xs then [] else none_new at w xs ys)
@@ -317,6 +340,10 @@ abbrev pub define_types : Walk → t.Expr → t.Exprs → Tys → Walk → Defin
 define_types w y (t.MoreExprs x xs) (more_tys ty tys) u = define_type w u y (fresh_of w x) ty (define_types w y xs tys)
 define_types w y _ _ u = no_more u
 
+-- a fault of the statement, told where its sides are typed, with what is told of these; fs: of the names
+abbrev pub sides_told : Flaw → Walk → List Flaw → t.Exprs → t.Exprs → List Flaw
+sides_told f w fs xs ys = where_typed (sides_typed w xs && all_typed w ys) (all_in_flaws w ys ++ fs) (f ∷ []) ++ old_flaws w xs
+
 -- no value is known for the names
 abbrev pub with_unknown_new : Name → Option Place → Walk → Walk
 with_unknown_new n None u = with_unknown n u
@@ -331,7 +358,7 @@ unknown_names w t.NoExprs u = u
 unknown_names w (t.MoreExprs x xs) u = unknown_names w xs (with_fresh (fresh_of w x) u)
 
 abbrev pub define_miscounted : Place → Walk → List Flaw → t.Exprs → t.Exprs → Walk → Did
-define_miscounted at w fs xs ys u = faulty (where_typed (all_typed w ys) (all_in_flaws w ys ++ fs) (flaw at 84 ∷ [])) (unknown_names w xs u)
+define_miscounted at w fs xs ys u = faulty (sides_told (flaw at 84) w fs xs ys) (unknown_names w xs u)
 
 abbrev pub define_call : Place → Walk → List Flaw → t.Exprs → t.Expr → Tys → Walk → Did
 define_call at w fs xs y tys u =
@@ -345,3 +372,7 @@ define_by at w fs xs ys (Some tys) u = define_call at w fs xs (first_right ys (t
 
 abbrev pub define : Place → t.Exprs → t.Exprs → Walk → Did
 define at xs ys w = define_by at w (define_flaws at w xs ys) xs ys (several_right w ys) (uses_all ys (left_uses xs w))
+
+-- where no short declaration may stand (83) its names are declared nowhere
+abbrev pub undeclared : Place → t.Exprs → t.Exprs → Walk → Did
+undeclared at xs ys w = faulty (sides_told (flaw (first_place xs at) 83) w (names_flaws w [] xs) xs ys) (uses_all ys (left_uses xs w))

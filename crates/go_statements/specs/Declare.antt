@@ -1,6 +1,6 @@
 -- Declarations in functions. Go specification (as of Go 1.17), "Constant declarations", "Iota", "Type declarations",
 -- "Variable declarations".
-use Rattle.std.specs.Prelude.{ℕ, suc, length, List, [], ◌∷◌, ◌++◌, Bool, true, false, if◌then◌else◌, Option, Some, None, bytes_eq}
+use Rattle.std.specs.Prelude.{ℕ, suc, length, List, [], ◌∷◌, ◌++◌, Bool, true, false, ◌&&◌, if◌then◌else◌, Option, Some, None, bytes_eq}
 use Rattle.gj_base.specs.declared.place.Place.{Place}
 use Rattle.go_syntax.specs.Tree as t
 use Rattle.go_syntax.specs.declared.tree.Name.{Name}
@@ -34,6 +34,11 @@ spec_type_of (Some u) = of_type u
 abbrev pub spec_type : Walk → t.MaybeExpr → SpecType
 spec_type w t.NoExpr = no_type
 spec_type w (t.AnExpr e) = spec_type_of (type_of (type_in w e).answer)
+
+-- there is none, or one that is typed
+abbrev pub spec_known : SpecType → Bool
+spec_known lost_type = false
+spec_known _ = true
 
 abbrev pub spec_type_flaws : Walk → t.MaybeExpr → List Flaw
 spec_type_flaws w t.NoExpr = []
@@ -130,20 +135,24 @@ abbrev pub spec_place : List Name → Place → Place
 spec_place [] at = at
 spec_place (n ∷ ns) at = n.place
 
-abbrev pub var_miscounted : Place → Walk → List Name → t.Exprs → Walk → Did
-var_miscounted at w ns ys u = also (where_typed (all_typed w ys) (all_in_flaws w ys) (flaw (spec_place ns at) 84 ∷ [])) (record (var_zero lost_type ns u) { core = [] })
+-- there are not as many values as names (84), told where the type and the values are typed
+abbrev pub count_told : SpecType → Place → (known : Bool) → (told : List Flaw) → List Flaw
+count_told s at known told = where_typed (spec_known s && known) told (flaw at 84 ∷ [])
+
+abbrev pub var_miscounted : Place → Walk → SpecType → List Name → t.Exprs → Walk → Did
+var_miscounted at w s ns ys u = also (count_told s (spec_place ns at) (all_typed w ys) (all_in_flaws w ys)) (record (var_zero lost_type ns u) { core = [] })
 
 abbrev pub var_call : Place → Walk → SpecType → List Name → t.Expr → Tys → Walk → Did
 var_call at w s ns y vs u =
     if names_number ns vs
     then (let d = var_types s y ns vs u in record { core = d.before ++ core.store d.targets (core.expr (core_of (answer_in w y)) core.no_exprs) ∷ []; flaws = d.flaws; walk = d.walk })
-    else var_miscounted at w ns (t.MoreExprs y t.NoExprs) u
+    else var_miscounted at w s ns (t.MoreExprs y t.NoExprs) u
 
 abbrev pub var_by : Place → Walk → SpecType → List Name → t.Exprs → Option Tys → Walk → Did
 var_by at w s ns ys None u =
     if names_count ns ys
     then (let d = var_each w s ns ys u in record { core = d.before ++ core.store d.targets d.values ∷ []; flaws = d.flaws; walk = d.walk })
-    else var_miscounted at w ns ys u
+    else var_miscounted at w s ns ys u
 var_by at w s ns ys (Some vs) u = var_call at w s ns (first_right ys (t.NameExpr at [])) vs u
 
 abbrev pub var_values : Place → Walk → SpecType → List Name → t.Exprs → Walk → Did
@@ -208,7 +217,7 @@ abbrev pub const_spec : Place → Walk → List Name → t.MaybeExpr → t.Exprs
 const_spec at w ns u ys v =
     also (spec_type_flaws w u)
     (if names_count ns ys then const_each w (spec_type w u) ns ys (uses_all ys (type_uses u v))
-    else also (where_typed (all_typed w ys) (all_in_flaws w ys) (flaw (spec_place ns at) 84 ∷ [])) (const_unknown ns (uses_all ys (type_uses u v))))
+    else also (count_told (spec_type w u) (spec_place ns at) (all_typed w ys) (all_in_flaws w ys)) (const_unknown ns (uses_all ys (type_uses u v))))
 
 -- where a list is missing the last one stands again, its type with it
 abbrev pub const_specs : Place → ℕ → t.MaybeExpr → t.Exprs → t.ValueSpecs → Walk → Did

@@ -5,7 +5,7 @@ use Rattle.gj_base.specs.declared.kind.Op.TheVariants as operator
 use Rattle.go_syntax.specs.Tree as t
 use Rattle.go_syntax.specs.declared.tree.Prefix.TheVariants as «prefix»
 use Rattle.go_typing.specs.RowWords.{at, name, num, str, paren, pre, two, at_index, exprs, call, fault, named_fault}
-use Rattle.go_statements.specs.RowWords.{block, told}
+use Rattle.go_statements.specs.RowWords.{id, spec, block, told}
 
 pub record RowsAssign : Type 0 where
   -- assignments
@@ -33,6 +33,8 @@ pub record RowsAssign : Type 0 where
   pub no_result : told (block 0 ((t.AssignStmt (at 2) (exprs ((name (codes "i") 2) ∷ [])) None (exprs ((call (name (codes "h") 6) []) ∷ []))) ∷ []) 10) ≡ fault 6 52 ∷ []
   -- `{ i, w = x }`
   pub undefined_parts_come_first : told (block 0 ((t.AssignStmt (at 2) (exprs ((name (codes "i") 2) ∷ (name (codes "w") 5) ∷ [])) None (exprs ((name (codes "x") 9) ∷ []))) ∷ []) 11) ≡ named_fault 9 50 (codes "x") ∷ []
+  -- `{ x := y; x, w = 4 }`
+  pub one_for_an_unknown_type : told (block 0 ((t.DefineStmt (at 2) (exprs ((name (codes "x") 2) ∷ [])) (exprs ((name (codes "y") 7) ∷ []))) ∷ (t.AssignStmt (at 10) (exprs ((name (codes "x") 10) ∷ (name (codes "w") 13) ∷ [])) None (exprs ((num (codes "4") 17) ∷ []))) ∷ []) 19) ≡ named_fault 7 50 (codes "y") ∷ named_fault 2 80 (codes "x") ∷ []
   -- `{ c = 4 }`
   pub to_a_constant : told (block 0 ((t.AssignStmt (at 2) (exprs ((name (codes "c") 2) ∷ [])) None (exprs ((num (codes "4") 6) ∷ []))) ∷ []) 8) ≡ fault 2 85 ∷ []
   -- `{ 4 = i }`
@@ -93,6 +95,12 @@ pub record RowsAssign : Type 0 where
   pub of_an_undefined_value : told (block 0 ((t.DefineStmt (at 2) (exprs ((name (codes "x") 2) ∷ [])) (exprs ((name (codes "y") 7) ∷ []))) ∷ []) 9) ≡ named_fault 7 50 (codes "y") ∷ named_fault 2 80 (codes "x") ∷ []
   -- `{ x := 4; x := y }`
   pub none_new_of_an_undefined_value : told (block 0 ((t.DefineStmt (at 2) (exprs ((name (codes "x") 2) ∷ [])) (exprs ((num (codes "4") 7) ∷ []))) ∷ (t.DefineStmt (at 10) (exprs ((name (codes "x") 10) ∷ [])) (exprs ((name (codes "y") 15) ∷ []))) ∷ []) 17) ≡ named_fault 15 50 (codes "y") ∷ named_fault 2 80 (codes "x") ∷ []
+  -- `{ x := y; x := 4 }`
+  pub none_new_of_an_unknown_type : told (block 0 ((t.DefineStmt (at 2) (exprs ((name (codes "x") 2) ∷ [])) (exprs ((name (codes "y") 7) ∷ []))) ∷ (t.DefineStmt (at 10) (exprs ((name (codes "x") 10) ∷ [])) (exprs ((num (codes "4") 15) ∷ []))) ∷ []) 17) ≡ named_fault 7 50 (codes "y") ∷ named_fault 2 80 (codes "x") ∷ []
+  -- `{ const x = 4; x := 6 }`
+  pub none_new_but_a_constant : told (block 0 ((t.DeclStmt (at 2) (t.ConstDecl (at 2) (spec ((id (codes "x") 8) ∷ []) t.NoExpr ((num (codes "4") 12) ∷ []) t.NoValues))) ∷ (t.DefineStmt (at 15) (exprs ((name (codes "x") 15) ∷ [])) (exprs ((num (codes "6") 20) ∷ []))) ∷ []) 22) ≡ fault 15 85 ∷ []
+  -- `{ const x = 4; x, y := 6 }`
+  pub one_for_a_constant_and_a_name : told (block 0 ((t.DeclStmt (at 2) (t.ConstDecl (at 2) (spec ((id (codes "x") 8) ∷ []) t.NoExpr ((num (codes "4") 12) ∷ []) t.NoValues))) ∷ (t.DefineStmt (at 15) (exprs ((name (codes "x") 15) ∷ (name (codes "y") 18) ∷ [])) (exprs ((num (codes "6") 23) ∷ []))) ∷ []) 25) ≡ fault 15 85 ∷ named_fault 18 80 (codes "y") ∷ []
   -- `{ x := 4; x + 4 := 6 }`
   pub used_on_the_left : told (block 0 ((t.DefineStmt (at 2) (exprs ((name (codes "x") 2) ∷ [])) (exprs ((num (codes "4") 7) ∷ []))) ∷ (t.DefineStmt (at 10) (exprs ((two (name (codes "x") 10) operator.Add (num (codes "4") 14)) ∷ [])) (exprs ((num (codes "6") 19) ∷ []))) ∷ []) 21) ≡ fault 10 83 ∷ []
   -- `{ y + 4 := 6 }`

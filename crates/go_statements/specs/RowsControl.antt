@@ -27,6 +27,8 @@ pub record RowsControl : Type 0 where
   pub loops : told (block 0 ((t.ForStmt (at 2) t.NoStmt t.NoExpr t.NoStmt (block 6 ([]) 8)) ∷ (t.ForStmt (at 11) t.NoStmt (t.AnExpr (two (name (codes "i") 15) operator.Lt (num (codes "4") 19))) t.NoStmt (block 21 ((t.IncDecStmt (at 23) (exprs ((name (codes "i") 23) ∷ [])) true) ∷ []) 27)) ∷ (t.ForStmt (at 30) (t.AStmt (t.DefineStmt (at 34) (exprs ((name (codes "x") 34) ∷ [])) (exprs ((num (codes "0") 39) ∷ [])))) (t.AnExpr (two (name (codes "x") 42) operator.Lt (num (codes "4") 46))) (t.AStmt (t.IncDecStmt (at 49) (exprs ((name (codes "x") 49) ∷ [])) true)) (block 53 ((t.ExprStmt (at 55) (exprs ((call (name (codes "println") 55) ((name (codes "x") 63) ∷ [])) ∷ []))) ∷ []) 66)) ∷ []) 68) ≡ []
   -- `{ for ; ; x := 4 { } }`
   pub declaration_after_a_turn : told (block 0 ((t.ForStmt (at 2) t.NoStmt t.NoExpr (t.AStmt (t.DefineStmt (at 10) (exprs ((name (codes "x") 10) ∷ [])) (exprs ((num (codes "4") 15) ∷ [])))) (block 17 ([]) 19)) ∷ []) 21) ≡ fault 10 83 ∷ []
+  -- `{ for ; ; y + 4 := 6 { } }`
+  pub undefined_after_a_turn : told (block 0 ((t.ForStmt (at 2) t.NoStmt t.NoExpr (t.AStmt (t.DefineStmt (at 10) (exprs ((two (name (codes "y") 10) operator.Add (num (codes "4") 14)) ∷ [])) (exprs ((num (codes "6") 19) ∷ [])))) (block 21 ([]) 23)) ∷ []) 25) ≡ named_fault 10 50 (codes "y") ∷ []
   -- `{ if x := 4; x == i { i = x }; i = x }`
   pub header_has_a_scope : told (block 0 ((t.IfStmt (at 2) (t.AStmt (t.DefineStmt (at 5) (exprs ((name (codes "x") 5) ∷ [])) (exprs ((num (codes "4") 10) ∷ [])))) (two (name (codes "x") 13) operator.Eq (name (codes "i") 18)) (block 20 ((t.AssignStmt (at 22) (exprs ((name (codes "i") 22) ∷ [])) None (exprs ((name (codes "x") 26) ∷ []))) ∷ []) 28) t.NoStmt) ∷ (t.AssignStmt (at 31) (exprs ((name (codes "i") 31) ∷ [])) None (exprs ((name (codes "x") 35) ∷ []))) ∷ []) 37) ≡ named_fault 35 50 (codes "x") ∷ []
   -- `{ if x := 4; b { } }`

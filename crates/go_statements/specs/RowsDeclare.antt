@@ -77,6 +77,10 @@ pub record RowsDeclare : Type 0 where
   pub lists_repeat_with_their_type : told (block 0 ((t.DeclStmt (at 2) (t.ConstDecl (at 2) (spec ((id (codes "x") 10) ∷ []) (t.AnExpr (name (codes "uint8") 12)) ((two (num (codes "255") 20) operator.Add (name (codes "iota") 26)) ∷ []) (spec ((id (codes "y") 32) ∷ []) t.NoExpr ([]) t.NoValues)))) ∷ (t.AssignStmt (at 37) (exprs ((name (codes "u") 37) ∷ [])) None (exprs ((name (codes "x") 41) ∷ []))) ∷ (t.AssignStmt (at 44) (exprs ((name (codes "u") 44) ∷ [])) None (exprs ((name (codes "y") 48) ∷ []))) ∷ []) 50) ≡ fault 20 32 ∷ []
   -- `{ const x, y = 4; _ = x }`
   pub count_of_constants : told (block 0 ((t.DeclStmt (at 2) (t.ConstDecl (at 2) (spec ((id (codes "x") 8) ∷ (id (codes "y") 11) ∷ []) t.NoExpr ((num (codes "4") 15) ∷ []) t.NoValues))) ∷ (t.AssignStmt (at 18) (exprs ((name (codes "_") 18) ∷ [])) None (exprs ((name (codes "x") 22) ∷ []))) ∷ []) 24) ≡ fault 8 84 ∷ []
+  -- `{ const x, y z = 4; _, _ = x, y }`
+  pub count_beside_what_is_no_type : told (block 0 ((t.DeclStmt (at 2) (t.ConstDecl (at 2) (spec ((id (codes "x") 8) ∷ (id (codes "y") 11) ∷ []) (t.AnExpr (name (codes "z") 13)) ((num (codes "4") 17) ∷ []) t.NoValues))) ∷ (t.AssignStmt (at 20) (exprs ((name (codes "_") 20) ∷ (name (codes "_") 23) ∷ [])) None (exprs ((name (codes "x") 27) ∷ (name (codes "y") 30) ∷ []))) ∷ []) 32) ≡ fault 13 51 ∷ []
+  -- `{ var x, y z = 4; _, _ = x, y }`
+  pub variables_of_what_is_no_type : told (block 0 ((t.DeclStmt (at 2) (t.VarDecl (at 2) (spec ((id (codes "x") 6) ∷ (id (codes "y") 9) ∷ []) (t.AnExpr (name (codes "z") 11)) ((num (codes "4") 15) ∷ []) t.NoValues))) ∷ (t.AssignStmt (at 18) (exprs ((name (codes "_") 18) ∷ (name (codes "_") 21) ∷ [])) None (exprs ((name (codes "x") 25) ∷ (name (codes "y") 28) ∷ []))) ∷ []) 30) ≡ fault 11 51 ∷ []
   -- `{ const x int; _ = x }`
   pub first_list_is_missing : told (block 0 ((t.DeclStmt (at 2) (t.ConstDecl (at 2) (spec ((id (codes "x") 8) ∷ []) (t.AnExpr (name (codes "int") 10)) ([]) t.NoValues))) ∷ (t.AssignStmt (at 15) (exprs ((name (codes "_") 15) ∷ [])) None (exprs ((name (codes "x") 19) ∷ []))) ∷ []) 21) ≡ fault 8 84 ∷ []
   -- `{ const x = 4; const x = 6; i = x }`

@@ -22,7 +22,7 @@ use Rattle.go_typing.specs.Typing.{Callee, a_function, by_value, callee_of, plac
 use Rattle.go_typing.specs.Uses.{names_in_stmt}
 use Rattle.go_statements.specs.Walk.{Walk, Around, Target, Did, did, faulty, and_then, also, body, within, fresh, uses, uses_all, with_uses, unused}
 use Rattle.go_statements.specs.Expressions.{Valued, answer_in, flaws_in, value_at, value_alone, condition, core_of, type_of, constant_of}
-use Rattle.go_statements.specs.Assign.{assign, update, step, define, where_typed, all_typed, all_in_flaws, same_number, several_right, first_right, first_place, left_uses}
+use Rattle.go_statements.specs.Assign.{assign, update, step, define, where_typed, all_typed, all_in_flaws, same_number, several_right, first_right, undeclared}
 use Rattle.go_statements.specs.Declare.{decl}
 use Rattle.go_statements.specs.Labels.{label_of, labels_told}
 
@@ -114,7 +114,7 @@ for_did x init post inside w =
 
 -- a short declaration is no statement after a turn (83)
 abbrev pub post_did : t.MaybeStmt → (Walk → Did) → Walk → Did
-post_did (t.AStmt (t.DefineStmt at xs ys)) post w = faulty (where_typed (all_typed w ys) (all_in_flaws w ys) (flaw (first_place xs at) 83 ∷ [])) (uses_all ys (left_uses xs w))
+post_did (t.AStmt (t.DefineStmt at xs ys)) post w = undeclared at xs ys w
 post_did s post w = post w
 
 -- ---- `switch`

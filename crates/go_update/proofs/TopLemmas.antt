@@ -1,5 +1,5 @@
 -- `x op= y` and `x++` as statements.
-use Rattle.std.proofs.Common.{arith, ◌≡◌, ℕ, ◌≤◌, ◌∙◌, refl, sym, ap, subst, List, [], ◌∷◌, ◌++◌, length, map, get_or, Bool}
+use Rattle.std.proofs.Common.{arith, ◌≡◌, ℕ, ◌≤◌, ◌∙◌, refl, sym, ap, subst, List, [], ◌∷◌, ◌++◌, length, map, get_or, Bool, ◌&&◌}
 use Rattle.std.specs.List.{AllByRecursion}
 use Rattle.std.proofs.lemmas.List.{append-nil}
 use Rattle.gj_base.specs.declared.place.Place.{Place}
@@ -26,11 +26,11 @@ use Rattle.go_callee.specs.Words.{types_of, names_of, scopes_of}
 use Rattle.go_statements.specs.Walk as go
 use Rattle.go_statements.specs.Walk.{Did, uses, uses_all}
 use Rattle.go_statements.specs.Expressions.{answer_in}
-use Rattle.go_statements.specs.Assign.{Left, left_place, left_of, lefts_flaws, update_left, update, step, step_op, one_, where_typed, all_typed, miscounted}
+use Rattle.go_statements.specs.Assign.{Left, left_place, left_of, lefts_typed, lefts_flaws, update_left, update, step, step_op, one_, where_typed, all_typed, miscounted}
 use Rattle.go_walk.specs.WalkView.{walk_of, walk_outside}
 use Rattle.go_walk.specs.declared.walk.Walk.{Walk}
 use Rattle.go_typed.specs.Raw.{Raw, raw_of, raws_of, Grows}
-use Rattle.go_valued.specs.Settled.{all_told}
+use Rattle.go_valued.specs.Settled.{all_known, all_told}
 use Rattle.go_valued.specs.Outcome.{Does, Adds}
 use Rattle.go_effects.specs.Moves.{Moves, Stays}
 use Rattle.go_effects.proofs.WalkLemmas.{names_grown, scopes_grown, raw_grown, raws_grown, moves_stays, moves_on}
@@ -41,7 +41,7 @@ use Rattle.go_assign.specs.declared.left.Left.TheVariants as left
 use Rattle.go_assign.specs.LeftView.{left_view, lefts_after, lefts_of, LeftBelow}
 use Rattle.go_assign.specs.Assigning.{Gives, not_as_many, all_flaws}
 use Rattle.go_assign.proofs.LeftLemmas.{lefts_kept, lefts_below}
-use Rattle.go_assign.proofs.SideLemmas.{left_same, lefts_same, gives_did, flaws_all}
+use Rattle.go_assign.proofs.SideLemmas.{left_same, lefts_same, gives_did, flaws_all, left_all}
 use Rattle.go_update.specs.Updating.{updated, updates_not, steps_not}
 use Rattle.go_update.proofs.UpdateLemmas.{updated_did}
 
@@ -173,9 +173,11 @@ uses_all_two X Y a b c h k = moves_on (uses_all Y) (uses_all X) a b c h k
 
 counted : (at : Place) (w : go.Walk) (xs ys : List t.Expr) (u : go.Walk) → gives_did (not_as_many at (lefts_of w xs) (raws_of w.names w.scopes ys)) u ≡ miscounted at w (exprs_of xs) (exprs_of ys) u
 counted at w xs ys u =
-    ap (λ (b : Bool). made [] (where_typed b (all_flaws (lefts_of w xs) ++ all_told (raws_of w.names w.scopes ys)) (flaw at 84 ∷ [])) u) (sym (typed_all w ys))
-    ∙ ap (λ (fs : List Flaw). made [] (where_typed (all_typed w (exprs_of ys)) (fs ++ all_told (raws_of w.names w.scopes ys)) (flaw at 84 ∷ [])) u) (flaws_all w xs)
-    ∙ ap (λ (fs : List Flaw). made [] (where_typed (all_typed w (exprs_of ys)) (lefts_flaws w (exprs_of xs) ++ fs) (flaw at 84 ∷ [])) u) (sym (told_all w ys))
+    let known = lefts_typed w (exprs_of xs) && all_typed w (exprs_of ys) in
+    ap (λ (b : Bool). made [] (where_typed (b && all_known (raws_of w.names w.scopes ys)) (all_flaws (lefts_of w xs) ++ all_told (raws_of w.names w.scopes ys)) (flaw at 84 ∷ [])) u) (left_all w xs)
+    ∙ ap (λ (b : Bool). made [] (where_typed (lefts_typed w (exprs_of xs) && b) (all_flaws (lefts_of w xs) ++ all_told (raws_of w.names w.scopes ys)) (flaw at 84 ∷ [])) u) (sym (typed_all w ys))
+    ∙ ap (λ (fs : List Flaw). made [] (where_typed known (fs ++ all_told (raws_of w.names w.scopes ys)) (flaw at 84 ∷ [])) u) (flaws_all w xs)
+    ∙ ap (λ (fs : List Flaw). made [] (where_typed known (lefts_flaws w (exprs_of xs) ++ fs) (flaw at 84 ∷ [])) u) (sym (told_all w ys))
 
 -- of the code's sides, at the walk before the statement
 counted_at : (at : Place) (X Y : List t.Expr) (a : Walk) (e : Env) (ls : List Left) (rs : List Raw) (ts : List Ty) (u : go.Walk) → e ≡ a.env → ls ≡ lefts_of (walk_outside e) X → rs ≡ raws_of (names_of e) (scopes_of e) Y

@@ -3,7 +3,7 @@
 use crate::check_tests::{Case, check_all};
 use std::test::Fail;
 
-const CASES: [Case; 63] = [
+const CASES: [Case; 68] = [
     Case {
         name: "a-variable-that-is-not-used",
         source: "package main\n\nfunc main() {\n\tx := 1\n}\n",
@@ -123,6 +123,31 @@ const CASES: [Case; 63] = [
         name: "one-value-for-two-variables",
         source: "package main\n\nfunc main() {\n\tvar a, b int = 1\n\t_, _ = a, b\n}\n",
         told: "main.go:4:6: counts do not match\n",
+    },
+    Case {
+        name: "one-value-for-two-variables-of-an-undefined-type",
+        source: "package main\n\nfunc main() {\n\tvar a, b z = 1\n\t_, _ = a, b\n}\n",
+        told: "main.go:4:11: undefined: z\n",
+    },
+    Case {
+        name: "one-constant-for-two-names-of-an-undefined-type",
+        source: "package main\n\nconst a, b z = 1\n\nfunc main() {\n}\n",
+        told: "main.go:3:12: undefined: z\n",
+    },
+    Case {
+        name: "one-value-for-a-constant-and-a-new-name",
+        source: "package main\n\nfunc main() {\n\tconst a = 1\n\ta, b := 4\n\t_ = b\n}\n",
+        told: "main.go:5:2: can not assign here\n",
+    },
+    Case {
+        name: "a-definition-of-a-constant",
+        source: "package main\n\nfunc main() {\n\tconst a = 1\n\ta := 4\n}\n",
+        told: "main.go:5:2: can not assign here\n",
+    },
+    Case {
+        name: "a-definition-after-a-turn-of-what-is-undefined",
+        source: "package main\n\nfunc main() {\n\tfor ; ; z + 1 := 4 {\n\t}\n}\n",
+        told: "main.go:4:10: undefined: z\n",
     },
     Case {
         name: "one-value-for-two-new-names",

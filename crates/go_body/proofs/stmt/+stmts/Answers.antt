@@ -179,7 +179,7 @@ after_turn-returns-in-None-clause-does t c =
 
 pub after_turn-told_define-requires : goal.after_turn-told_define-requires
 after_turn-told_define-requires t c =
-    record { define = sym c.is_define.ensures.value ∙ c.if-is_define.true }
+    record { depth = c.requires.ready.depth; define = sym c.is_define.ensures.value ∙ c.if-is_define.true }
 
 pub turned-block-requires : goal.turned-block-requires
 turned-block-requires t c =

@@ -1,14 +1,12 @@
 use Rattle.std.proofs.Common.{◌∙◌, ap, sym, List, ◌++◌, map}
-use Rattle.std.specs.Prelude.{◌∷◌, []}
 use Rattle.gj_base.specs.declared.place.Place.{Place}
 use Rattle.go_answers.specs.AnswerView.{flaw_view}
 use Rattle.go_callee.specs.Words.{types_of}
 use Rattle.go_constants.specs.SpecView.{spec_view}
 use Rattle.go_packages.specs.Told.{each_told}
-use Rattle.go_statements.specs.Assign.{where_typed, all_typed, all_in_flaws}
-use Rattle.go_statements.specs.Declare.{names_count, spec_place}
+use Rattle.go_statements.specs.Assign.{all_typed, all_in_flaws}
+use Rattle.go_statements.specs.Declare.{names_count, spec_place, count_told}
 use Rattle.go_syntax.specs.View.{expr_view, exprs_of}
-use Rattle.go_typing.specs.Answer.{flaw}
 use Rattle.go_walk.specs.WalkView.{walk_outside}
 use Rattle.go_decls.proofs.ConstantLemmas.{same_count, other_count, counted, uncounted}
 use Rattle.go_decls.proofs.constants.values_told.Goals as goal
@@ -20,7 +18,7 @@ returns-then-names-values c =
     let ys = exprs_of (map expr_view c.args.values.now) in
     record {
       told =
-          counted (names_count ns ys) (each_told w (spec_view (types_of c.args.env.now) c.args.ty) ns ys) (where_typed (all_typed w ys) (all_in_flaws w ys) (flaw (spec_place ns c.args.at) 84 ∷ [])) (map flaw_view c.args.flaws.now.items)
+          counted (names_count ns ys) (each_told w (spec_view (types_of c.args.env.now) c.args.ty) ns ys) (count_told (spec_view (types_of c.args.env.now) c.args.ty) (spec_place ns c.args.at) (all_typed w ys) (all_in_flaws w ys)) (map flaw_view c.args.flaws.now.items)
           (map flaw_view c.each_told.new.flaws.items) (same_count ns c.args.values.now c.if-names-values.true) c.in_ok-each_told.ensures.told;
       grows = c.in_ok-each_told.ensures.grows;
     }
@@ -33,8 +31,8 @@ returns c =
     let old = map flaw_view c.args.flaws.now.items in
     record {
       told =
-          uncounted (names_count ns ys) (each_told w (spec_view (types_of c.args.env.now) c.args.ty) ns ys) (where_typed (all_typed w ys) (all_in_flaws w ys) (flaw (spec_place ns c.args.at) 84 ∷ [])) old (map flaw_view c.miscounted.new.flaws.items)
+          uncounted (names_count ns ys) (each_told w (spec_view (types_of c.args.env.now) c.args.ty) ns ys) (count_told (spec_view (types_of c.args.env.now) c.args.ty) (spec_place ns c.args.at) (all_typed w ys) (all_in_flaws w ys)) old (map flaw_view c.miscounted.new.flaws.items)
           (other_count ns c.args.values.now c.if-names-values.false)
-          (c.in_ok-miscounted.ensures.told ∙ ap (λ (p : Place). old ++ where_typed (all_typed w ys) (all_in_flaws w ys) (flaw p 84 ∷ [])) c.place_of.ensures.value);
+          (c.in_ok-miscounted.ensures.told ∙ ap (λ (p : Place). old ++ count_told (spec_view (types_of c.args.env.now) c.args.ty) p (all_typed w ys) (all_in_flaws w ys)) c.place_of.ensures.value);
       grows = c.in_ok-miscounted.ensures.grows;
     }

@@ -10,5 +10,5 @@ pub returns-in-Ok-unknown_each : goal.returns-in-Ok-unknown_each
 returns-in-Ok-unknown_each c =
     let ts = types_of c.args.walk.now.env in
     record {
-      does = λ out. not_does c.args.at (map flaw_view c.args.fs.items) (freshes_view ts c.args.freshes) (raws_view ts c.args.raws) c.args.walk.now c.unknown_each.new.walk c.args.flaws.now.items c.parts_told.new.flaws.items out c.in-Ok-unknown_each.ensures.moves (c.in-Ok.ensures.told ts);
+      does = λ out. not_does c.args.at (map flaw_view c.args.fs.items) (freshes_view ts c.args.freshes) (raws_view ts c.args.raws) c.args.walk.now c.unknown_each.new.walk c.args.flaws.now.items c.parts_told.new.flaws.items c.unknown_each.new.flaws.items c.names_typed-typed.result out c.in-Ok-unknown_each.ensures.moves (c.names_typed-typed.ensures.value ts) (c.in-Ok.ensures.told ts) c.in-Ok-unknown_each.ensures.told;
     }

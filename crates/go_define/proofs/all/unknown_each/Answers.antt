@@ -1,8 +1,9 @@
-use Rattle.std.proofs.Common.{◌∙◌}
+use Rattle.std.proofs.Common.{◌∙◌, map}
+use Rattle.go_answers.specs.AnswerView.{flaw_view}
 use Rattle.go_scopes.specs.EnvView.{table_of}
 use Rattle.go_callee.specs.Words.{types_of}
 use Rattle.go_define.specs.FreshView.{fresh_view}
-use Rattle.go_define.proofs.AllLemmas.{depth_at, freshes_at, keeps_at, unknowns_step}
+use Rattle.go_define.proofs.AllLemmas.{depth_at, freshes_at, keeps_at, unknowns_step, old_step}
 use Rattle.go_define.proofs.all.unknown_each.Goals as goal
 
 pub loop-fresh-preserved : goal.loop-fresh-preserved
@@ -18,6 +19,7 @@ loop-fresh-preserved c =
       opened = depth_at _ b d x.walk c.loop-fresh.invariant.opened;
       freshes = freshes_at t u fs1 x.table c.next_fresh.ensures.within;
       walk = λ ts k. unknowns_step b d fs fs1 (fresh_view (types_of b.env) c.in-Some.fresh) ts _ c.in-Some.ensures.view (x.walk.walk ts k) x.table (c.loop-fresh.invariant.walk ts (keeps_at t u ts x.table k));
+      told = old_step b d fs fs1 (fresh_view (types_of b.env) c.in-Some.fresh) (map flaw_view c.loop-fresh.flaws.items) (map flaw_view c.fresh_told.new.flaws.items) _ c.in-Some.ensures.view x.table (c.in_ok-fresh_told.ensures.told (types_of b.env)) c.loop-fresh.invariant.told;
       same_depth = x.walk.depth ∙ c.loop-fresh.invariant.same_depth;
       table = x.table ∙ c.loop-fresh.invariant.table;
     }

@@ -9,6 +9,6 @@ returns-in-Ok-unknown_consts c =
     let ts = types_of e in
     record {
       does = λ out.
-          miscounted_does (names_of e) c.args.at c.first_at-first.result (spec_view ts c.args.s) c.args.names.now ts c.args.raws.items.items c.args.walk.now c.unknown_consts.new.walk c.args.flaws.now.items c.fault_where_typed.new.flaws.items c.unknown_consts.new.flaws.items out c.requires.counts c.first_at-first.ensures.value
+          miscounted_does (names_of e) c.args.at c.first_at-first.result (spec_view ts c.args.s) c.args.names.now ts c.args.raws.items.items c.args.walk.now c.unknown_consts.new.walk c.args.flaws.now.items c.count_told.new.flaws.items c.unknown_consts.new.flaws.items out c.requires.counts c.first_at-first.ensures.value
           (c.in-Ok.ensures.told ts) (c.in-Ok-unknown_consts.ensures.does out);
     }

@@ -39,6 +39,7 @@ returns _ = record {
     constant_past_its_type = refl;
     constant_without_a_value = refl;
     counted_constants = refl;
+    counts_beside_an_undefined_type = refl;
     repeated_list_past_its_type = refl;
     call_for_a_constant = refl;
     parameters_of_one_type = refl;

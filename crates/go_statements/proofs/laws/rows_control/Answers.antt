@@ -13,6 +13,7 @@ returns _ = record {
     loop_on_an_integer = refl;
     loops = refl;
     declaration_after_a_turn = refl;
+    undefined_after_a_turn = refl;
     header_has_a_scope = refl;
     header_name_is_unused = refl;
     block_has_a_scope = refl;
