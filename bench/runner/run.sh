@@ -13,7 +13,19 @@ fi
 
 # What `rt check` and `rt lib` have built of the crates is copied with them, so that it isn't built anew.
 mkdir -p "$work/crates/run_time/src"
-below=$(sed -n 's/^\(js_run\|js_read\):/\1/p' "$top/crates.txt" | tr ' ' '\n' | sort -u)
+below=$(python3 - "$top/crates.txt" <<'END_OF_NAMES'
+import sys
+
+lists = dict(line.split(":") for line in open(sys.argv[1], encoding="utf-8") if line.strip())
+wanted, found = ["js_run", "js_read", "js_tree", "gj_base"], set()
+while wanted:
+    name = wanted.pop()
+    if name not in found:
+        found.add(name)
+        wanted += lists.get(name, "").split()
+print(*sorted(found))
+END_OF_NAMES
+)
 for crate in $below; do
     if [ -d "$top/crates/$crate" ]; then
         mkdir "$work/crates/$crate"
