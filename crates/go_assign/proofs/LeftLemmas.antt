@@ -164,7 +164,7 @@ pub left_end : (ts : List Ty) (xs : List code.Left) (i : ℕ) → length xs ≤ 
 left_end ts xs i h = ap (λ (x : List code.Left). all_left (lefts_after ts x [])) (past xs i h)
 
 abbrev outside : List NamedTy → List (List Bind) → Walk
-outside ns ss = record { names = ns; scopes = ss; next = 0; next_label = 0; vars = []; declared = []; used = [] }
+outside ns ss = record { names = ns; scopes = ss; next = 0; next_label = 0; vars = []; declared = []; used = []; lost = 0 }
 
 outside_grown : (a b : Env) → Grows a b → walk_outside b ≡ walk_outside a
 outside_grown a b g = ap (λ (ns : List NamedTy). outside ns (scopes_of b)) (names_grown a b g) ∙ ap (outside (names_of a)) (scopes_grown a b g)

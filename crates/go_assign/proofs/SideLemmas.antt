@@ -26,15 +26,15 @@ use Rattle.go_assign.specs.Assigning.{paired, pair_targets, pair_values, pair_fl
 
 -- ---- of the walk only names and scopes are asked
 
-abbrev walk_at : List NamedTy → List (List Bind) → ℕ → ℕ → List Var → List Name → List Place → Walk
-walk_at ns ss n l vs ds us = record { names = ns; scopes = ss; next = n; next_label = l; vars = vs; declared = ds; used = us }
+abbrev walk_at : List NamedTy → List (List Bind) → ℕ → ℕ → List Var → List Name → List Place → ℕ → Walk
+walk_at ns ss n l vs ds us z = record { names = ns; scopes = ss; next = n; next_label = l; vars = vs; declared = ds; used = us; lost = z }
 
-module _ (ns : List NamedTy) (ss : List (List Bind)) (n l : ℕ) (vs : List Var) (ds : List Name) (us : List Place) where
+module _ (ns : List NamedTy) (ss : List (List Bind)) (n l : ℕ) (vs : List Var) (ds : List Name) (us : List Place) (z : ℕ) where
   abbrev some_walk : Walk
-  some_walk = walk_at ns ss n l vs ds us
+  some_walk = walk_at ns ss n l vs ds us z
 
   abbrev no_walk : Walk
-  no_walk = walk_at ns ss 0 0 [] [] []
+  no_walk = walk_at ns ss 0 0 [] [] [] 0
 
   declared_same : (e : Expr) (d : Option Decl) → left_declared some_walk e d ≡ left_declared no_walk e d
   declared_same e (Some (variable id u)) = refl

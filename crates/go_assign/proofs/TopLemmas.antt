@@ -165,7 +165,7 @@ said : (at : Place) (X Y : List t.Expr) (a : Walk) (e : Env) (ns : List NamedTy)
 said at X Y a e ns ls rs ts u p q h k =
     ap (λ (x : List NamedTy). gives_did (assigned x at ls rs) u) (q ∙ ap names_of p)
     ∙ ap (λ (x : List Left). gives_did (assigned (names_of a.env) at x rs) u)
-    (h ∙ ap (λ (x : Env). lefts_of (walk_outside x) X) p ∙ sym (lefts_same (names_of a.env) (scopes_of a.env) a.next a.next_label (map (var_of ts) a.vars.items) a.declared.items a.used.items X))
+    (h ∙ ap (λ (x : Env). lefts_of (walk_outside x) X) p ∙ sym (lefts_same (names_of a.env) (scopes_of a.env) a.next a.next_label (map (var_of ts) a.vars.items) a.declared.items a.used.items a.lost X))
     ∙ ap (λ (x : List Raw). gives_did (assigned (names_of a.env) at (lefts_of (walk_of ts a) X) x) u) (k ∙ ap (λ (x : Env). raws_of (names_of x) (scopes_of x) Y) p)
     ∙ assigned_did at (walk_of ts a) X Y u
 

@@ -9,9 +9,9 @@ use Rattle.go_core.specs.CoreTree as core
 use Rattle.go_typing.specs.Env.{Decl, variable, global}
 use Rattle.go_typing.specs.Answer.{flaw, is_known}
 use Rattle.go_answers.specs.AnswerView.{flaw_view}
-use Rattle.go_statements.specs.Walk.{Walk, uses}
+use Rattle.go_statements.specs.Walk.{Walk}
 use Rattle.go_statements.specs.Expressions.{Valued}
-use Rattle.go_statements.specs.Assign.{Left, left_blank, left_place, left_wrong, left_of, is_name}
+use Rattle.go_statements.specs.Assign.{Left, left_blank, left_place, left_wrong, left_of}
 use Rattle.go_typed.specs.Raw.{Raw}
 use Rattle.go_valued.specs.Settled.{at_type, alone}
 use Rattle.go_assign.specs.declared.left.Left as code
@@ -59,10 +59,6 @@ abbrev pub fitted : List NamedTy → Left → Raw → Valued
 fitted ns left_blank r = alone ns r
 fitted ns (left_place p u) r = at_type ns u r
 fitted ns (left_wrong fs) r = record { answer = r.part.answer; flaws = fs ++ r.flaws }
-
--- the variables that one left side uses
-abbrev pub left_used : t.Expr → Walk → Walk
-left_used e w = if is_name e then w else uses e w
 
 -- ---- without parentheses
 

@@ -2,7 +2,7 @@
 
 ghost use Rattle.std.specs.Prelude.{◌≡◌, option_map};
 ghost use Rattle.go_syntax.specs.View.{expr_view};
-ghost use Rattle.go_statements.specs.Assign.{is_name};
+ghost use Rattle.go_statements.specs.Assign.{is_bare, is_name};
 ghost use Rattle.go_assign.specs.LeftView.{bare, bare_name};
 
 use gj_base::Text;
@@ -74,5 +74,34 @@ pub fn is_name(e: &Expr) -> bool
     match bare_name(e) {
         Some(_) => true,
         None => false,
+    }
+}
+
+/// Whether it is a name without parentheses.
+pub fn is_bare(e: &Expr) -> bool
+    ensures value { result ≡ is_bare (expr_view e.now) }
+{
+    match &*e.form {
+        ExprForm::Name(_) => true,
+        ExprForm::Paren(_) => false,
+        ExprForm::Int(_) => false,
+        ExprForm::Rune(_) => false,
+        ExprForm::Str(_) => false,
+        ExprForm::Unary(_, _) => false,
+        ExprForm::Binary(_, _, _) => false,
+        ExprForm::Select(_, _) => false,
+        ExprForm::Index(_, _) => false,
+        ExprForm::Slice(_, _, _, _) => false,
+        ExprForm::Assert(_, _) => false,
+        ExprForm::Call(_, _, _) => false,
+        ExprForm::Literal(_, _) => false,
+        ExprForm::Func(_, _) => false,
+        ExprForm::ArrayT(_, _) => false,
+        ExprForm::SliceT(_) => false,
+        ExprForm::StructT(_) => false,
+        ExprForm::FuncT(_) => false,
+        ExprForm::InterfaceT(_) => false,
+        ExprForm::MapT(_, _) => false,
+        ExprForm::ChanT(_, _) => false,
     }
 }

@@ -1,6 +1,7 @@
 //! Variables that left sides use.
 //!
-//! Own: a variable that is the whole of a left side isn't used there.
+//! Own: a variable that is the whole of a left side isn't used there; whether its declaration is typed
+//! counts.
 
 ghost use Rattle.std.specs.Prelude.{◌≡◌, List, OnOk, map};
 ghost use Rattle.go_type.specs.Tree.{Ty};
@@ -8,21 +9,24 @@ ghost use Rattle.go_syntax.specs.View.{expr_view, exprs_of};
 ghost use Rattle.go_statements.specs.Assign as go;
 ghost use Rattle.go_walk.specs.WalkView.{walk_of};
 ghost use Rattle.go_effects.specs.Moves.{Moves};
-ghost use Rattle.go_assign.specs.LeftView.{left_used};
 
 use crate::bare::is_name;
 use gj_base::NoMemory;
 use go_syntax::tree::Expr;
 use go_walk::Walk;
-use go_walk::uses::use_expr;
+use go_walk::uses::{lose_expr, use_expr};
 
+/// The variables that one left side uses.
 #[tactic(auto, using(crate::proofs::UseLemmas::name_unused, crate::proofs::UseLemmas::other_used))]
-fn use_left(walk: &mut Walk, e: &Expr) -> Result<(), NoMemory>
-    ensures value { OnOk result ((ts : List Ty) → walk_of ts walk.new ≡ left_used (expr_view e.now) (walk_of ts walk.old)) }
+pub fn use_left(walk: &mut Walk, e: &Expr) -> Result<(), NoMemory>
+    ensures value { OnOk result ((ts : List Ty) → walk_of ts walk.new ≡ go.left_use (expr_view e.now) (walk_of ts walk.old)) }
     ensures env { walk.new.env ≡ walk.old.env }
 {
     if is_name(e) {
-        return Ok(());
+        return match lose_expr(walk, e) {
+            Ok(()) => Ok(()),
+            Err(error) => Err(error),
+        };
     }
     match use_expr(walk, e) {
         Ok(()) => Ok(()),

@@ -50,11 +50,11 @@ results_same : (s t : TypeTable) → KeepsTrees s t → (o : Option (Bor (List T
 results_same s t k None l = refl
 results_same s t k (Some is) l = ap (λ (us : Tys). Some us) (ids_same s t k is.now l)
 
-abbrev around_with : Option Tys → Bool → List go.Target → Option (List ℕ) → go.Around
-around_with rs named gs label = record { results = rs; named_results = named; targets = gs; label = label }
+abbrev around_with : Around → List go.Target → Option (List ℕ) → Option Tys → go.Around
+around_with ar gs label rs = record { results = rs; named_results = ar.named; targets = gs; label = label; wrong_labels = ar.wrong_labels.now; too_far = ar.too_far }
 
 pub around_same : (s t : TypeTable) (ar : Around) (gs : List go.Target) (label : Option (List ℕ)) → KeepsTrees s t → ResultsBelow (size s) ar.results → around_of (places t) ar gs label ≡ around_of (places s) ar gs label
-around_same s t ar gs label k l = ap (λ (rs : Option Tys). around_with rs ar.named gs label) (results_same s t k ar.results l)
+around_same s t ar gs label k l = ap (around_with ar gs label) (results_same s t k ar.results l)
 
 pub tag_same : (s t : TypeTable) (o : Option TypeId) → KeepsTrees s t → IfSome o (λ i. i.0 < size s) → option_map (tree_of (places t)) o ≡ option_map (tree_of (places s)) o
 tag_same s t None k l = refl
@@ -119,3 +119,7 @@ module _ (ar : Around) where
     plain = plain_on (scopes_of a.env) (scopes_of b.env) r.plain (ap (λ (w : go.Walk). without_last w.scopes) (h.walk (types_of b.env) (λ i l. refl)) ∙ (g (walk_of (types_of b.env) a)).outer_kept);
     results = results_more (size (table_of a.env)) (size (table_of b.env)) h.counts ar.results r.results;
   }
+
+-- where the results are the same
+pub ready_other : (a b : Around) (w : Walk) → b.results ≡ a.results → Ready a w → Ready b w
+ready_other a b w e r = record { depth = r.depth; plain = r.plain; results = subst (λ (o : Option (Bor (List TypeId))). ResultsBelow (size (table_of w.env)) o) (sym e) r.results }

@@ -42,6 +42,7 @@ use Rattle.go_statements.specs.Labels.{label_of}
 use Rattle.go_statements.specs.Statements as statements
 use Rattle.go_statements.specs.Statements.{Clauses, if_did, for_did, post_did, switch_did, limited, with_target, unlabeled, condition_core, condition_told, condition_uses, clauses_limit, is_default, case_tests, next_label, stmt, maybe, block, stmts, clause_stmts, clauses}
 use Rattle.go_walk.specs.WalkView.{walk_of, depth, Keeps}
+use Rattle.go_walk.specs.declared.parts.Before.{Before}
 use Rattle.go_walk.specs.declared.walk.Walk.{Walk}
 use Rattle.go_valued.specs.Taken.{StandsFor}
 use Rattle.go_valued.specs.Outcome.{Does}
@@ -60,7 +61,7 @@ use Rattle.go_leaf.specs.declared.made.Made.{Made}
 use Rattle.go_leaf.specs.declared.tagged.Tagged.{Tagged}
 use Rattle.go_body.proofs.KeepLemmas.{keeps_back, around_same, tag_same, tag_more, does_before, plain_on, results_more, ready_env, ready_passed, ready_done}
 use Rattle.go_body.proofs.PartLemmas.{within_does, both_does, if_does, for_does}
-use Rattle.go_leaf.proofs.LeafLemmas.{nothing_does, many_does}
+use Rattle.go_leaf.proofs.LeafLemmas.{nothing_does, many_since, many_does}
 use Rattle.go_body.proofs.SwitchLemmas.{head_exprs, head_stmts, head_onward, head_does, clause_does, Turned, turned_step, switch_does}
 use Rattle.go_leaf.proofs.ViewLemmas.{view_Block, view_If, view_For, view_Switch, view_Labeled}
 
@@ -129,14 +130,16 @@ module _ (ar : Around) (gs : List go.Target) where
         as_stmt (stmt_view s) (t.ForStmt s.place (maybe_stmt (option_map stmt_view init)) (maybe_expr (option_map expr_view y)) (maybe_stmt (option_map stmt_view post)) (block_view b)) (here m label) m n f0 f1 o0 o1 (view_For s x init y post b p e)
         (scope (for_in (maybe_stmt (option_map stmt_view init)) (maybe_expr (option_map expr_view y)) (maybe_stmt (option_map stmt_view post)) (block_view b)) label m u v n f0 f1 o0 o1 r pw pd pt h nw nd nt)
 
-    pub switch_arm : (init : Option Stmt) (y : Option Expr) (cs : List Clause) (b : Vec Clause Global) (before count : ℕ) (f2 : List Flaw) (u v : Walk) → x ≡ s.form.value → x ≡ form.Switch init y b → cs ≡ b.items → Ready ar m → ((ts : List Ty) → walk_of ts u ≡ pushed (walk_of ts m)) → depth u ≡ depth m + 1 → table_of u.env ≡ table_of m.env
+    pub switch_arm : (init : Option Stmt) (y : Option Expr) (cs : List Clause) (b : Vec Clause Global) (before : Before) (count : ℕ) (f2 : List Flaw) (u v : Walk) → x ≡ s.form.value → x ≡ form.Switch init y b → cs ≡ b.items → Ready ar m → ((ts : List Ty) → walk_of ts u ≡ pushed (walk_of ts m)) → depth u ≡ depth m + 1 → table_of u.env ≡ table_of m.env
         → Does (switch_in (maybe_stmt (option_map stmt_view init)) (maybe_expr (option_map expr_view y)) (joined (map clause_view cs) t.NoClauses) (here u label)) u v f0 f2 o0 o1 → ((ts : List Ty) → walk_of ts n ≡ popped (walk_of ts v)) → depth n + 1 ≡ depth v → table_of n.env ≡ table_of v.env
-        → before ≡ length f0 → count ≡ length cs → map flaw_view f1 ≡ map flaw_view f2 ++ (if length f2 == before then (if nat_lt clauses_limit count then flaw s.place 76 ∷ [] else []) else []) → Does (stmt (stmt_view s) (here m label)) m n f0 f1 o0 o1
-    switch_arm init y cs b before count f2 u v p e q r pw pd pt h nw nd nt e1 e2 told =
+        → before.flaws ≡ length f0 → before.declared ≡ length m.declared.items → before.lost ≡ m.lost → count ≡ length cs → map flaw_view f1 ≡ map flaw_view f2 ++ many_since before ar.wrong_labels.now (stmt_view s) n count s.place (length f2) → Does (stmt (stmt_view s) (here m label)) m n f0 f1 o0 o1
+    switch_arm init y cs b before count f2 u v p e q r pw pd pt h nw nd nt e1 e2 e3 e4 told =
         let d = switch_in (maybe_stmt (option_map stmt_view init)) (maybe_expr (option_map expr_view y)) (joined (map clause_view cs) t.NoClauses) in
-        as_stmt (stmt_view s) (t.SwitchStmt s.place (maybe_stmt (option_map stmt_view init)) (maybe_expr (option_map expr_view y)) (joined (map clause_view cs) t.NoClauses)) (here m label) m n f0 f1 o0 o1
-        (view_Switch s x init y b p e ∙ ap (λ (zs : List Clause). t.SwitchStmt s.place (maybe_stmt (option_map stmt_view init)) (maybe_expr (option_map expr_view y)) (joined (map clause_view zs) t.NoClauses)) (sym q))
-        (many_does s.place cs (within (d (here m label))) before count m n f0 f2 f1 o0 o1 e1 e2 (scope d label m u v n f0 f2 o0 o1 r pw pd pt h nw nd nt) told)
+        let form_of = t.SwitchStmt s.place (maybe_stmt (option_map stmt_view init)) (maybe_expr (option_map expr_view y)) (joined (map clause_view cs) t.NoClauses) in
+        let viewed : stmt_view s ≡ form_of = view_Switch s x init y b p e ∙ ap (λ (zs : List Clause). t.SwitchStmt s.place (maybe_stmt (option_map stmt_view init)) (maybe_expr (option_map expr_view y)) (joined (map clause_view zs) t.NoClauses)) (sym q) in
+        as_stmt (stmt_view s) form_of (here m label) m n f0 f1 o0 o1 viewed
+        (many_does s.place form_of cs (within (d (here m label))) (here m label) before count m n f0 f2 f1 o0 o1 e1 e2 e3 e4 (scope d label m u v n f0 f2 o0 o1 r pw pd pt h nw nd nt)
+        (told ∙ ap (λ (z : t.Stmt). map flaw_view f2 ++ many_since before ar.wrong_labels.now z n count s.place (length f2)) viewed))
 
 -- ---- a statement that there may be
 

@@ -42,6 +42,7 @@ use go_simple::Around;
 use go_stmt_gone::gone::gone_stmts;
 use go_syntax::tree::{Block, Clause, Expr, Stmt, StmtForm};
 use go_walk::Walk;
+use go_walk::parts::so_far;
 use go_walk::scopes::{pop, push};
 
 /// A statement; `label` stands before it.
@@ -77,7 +78,7 @@ pub fn stmt(
             Ok(())
         }
         StmtForm::Switch(init, x, cs) => {
-            let before = flaws.len();
+            let before = so_far(walk, flaws);
             push(walk)?;
             switch_stmt(
                 walk,
@@ -91,7 +92,7 @@ pub fn stmt(
                 cs.as_slice(),
             )?;
             pop(walk);
-            told_many(flaws, before, s.place, cs.len())?;
+            told_many(walk, flaws, before, around.wrong_labels, s, cs.len())?;
             Ok(())
         }
         StmtForm::Labeled(n, s) => {

@@ -40,20 +40,20 @@ raws_before a m b es rs p g h = h ∙ ap (λ (v : scopes.Env). raws_of v.named_t
 
 -- ---- the walk
 
-abbrev made : scopes.Env → ℕ → ℕ → List core.Var → List Name → List Place → go.Walk
-made e n l vs ds us = record { names = e.named_types; scopes = visible e; next = n; next_label = l; vars = vs; declared = ds; used = us }
+abbrev made : scopes.Env → ℕ → ℕ → List core.Var → List Name → List Place → ℕ → go.Walk
+made e n l vs ds us lost = record { names = e.named_types; scopes = visible e; next = n; next_label = l; vars = vs; declared = ds; used = us; lost = lost }
 
 -- a walk with more types alone stands for the same
-pub walk_grown : (ts : List Ty) (a b : Walk) → Grows a.env b.env → b.next ≡ a.next → b.next_label ≡ a.next_label → b.vars ≡ a.vars → b.declared ≡ a.declared → b.used ≡ a.used → walk_of ts b ≡ walk_of ts a
-walk_grown ts a b g n l v d u = λ j. made (g.env j) (n j) (l j) (map (var_of ts) (v j).items) (d j).items (u j).items
+pub walk_grown : (ts : List Ty) (a b : Walk) → Grows a.env b.env → b.next ≡ a.next → b.next_label ≡ a.next_label → b.vars ≡ a.vars → b.declared ≡ a.declared → b.used ≡ a.used → b.lost ≡ a.lost → walk_of ts b ≡ walk_of ts a
+walk_grown ts a b g n l v d u k = λ j. made (g.env j) (n j) (l j) (map (var_of ts) (v j).items) (d j).items (u j).items (k j)
 
-pub passes_typed : (a b : Walk) → Grows a.env b.env → b.next ≡ a.next → b.next_label ≡ a.next_label → b.vars ≡ a.vars → b.declared ≡ a.declared → b.used ≡ a.used → Passes stays a b
-passes_typed a b g n l v d u = record { walk = λ ts. walk_grown ts a b g n l v d u; env = g.env; kept = g.kept; counts = g.counts }
+pub passes_typed : (a b : Walk) → Grows a.env b.env → b.next ≡ a.next → b.next_label ≡ a.next_label → b.vars ≡ a.vars → b.declared ≡ a.declared → b.used ≡ a.used → b.lost ≡ a.lost → Passes stays a b
+passes_typed a b g n l v d u k = record { walk = λ ts. walk_grown ts a b g n l v d u k; env = g.env; kept = g.kept; counts = g.counts }
 
 pub passes_grown : (f : go.Walk → go.Walk) (a m b : Walk) → m.env ≡ a.env → ((ts : List Ty) → walk_of ts m ≡ f (walk_of ts a)) → Grows m.env b.env → b.next ≡ m.next → b.next_label ≡ m.next_label → b.vars ≡ m.vars → b.declared ≡ m.declared
-    → b.used ≡ m.used → Passes f a b
-passes_grown f a m b p h g n l v d u = record {
-  walk = λ ts. walk_grown ts m b g n l v d u ∙ h ts;
+    → b.used ≡ m.used → b.lost ≡ m.lost → Passes f a b
+passes_grown f a m b p h g n l v d u k = record {
+  walk = λ ts. walk_grown ts m b g n l v d u k ∙ h ts;
   env = g.env ∙ ap env_of p;
   kept = subst (λ (e : Env). KeepsTrees (table_of e) (table_of b.env)) p g.kept;
   counts = subst (λ (e : Env). size (table_of e) ≤ size (table_of b.env)) p g.counts;

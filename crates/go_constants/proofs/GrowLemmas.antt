@@ -37,7 +37,7 @@ grows_on a b c h k = record {
 
 -- what is found in it
 abbrev walk_in : scopes.Env → Walk
-walk_in e = record { names = e.named_types; scopes = visible e; next = 0; next_label = 0; vars = []; declared = []; used = [] }
+walk_in e = record { names = e.named_types; scopes = visible e; next = 0; next_label = 0; vars = []; declared = []; used = []; lost = 0 }
 
 pub same_walk : (a b : Env) → Grows a b → walk_outside b ≡ walk_outside a
 same_walk a b h = ap walk_in h.env

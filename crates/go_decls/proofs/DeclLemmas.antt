@@ -1,8 +1,6 @@
 -- What is told of declarations, one after the other.
-use Rattle.std.proofs.Common.{◌≡◌, ◌<◌, ◌≤◌, ◌∙◌, ℕ, suc, refl, sym, ap, subst, List, [], ◌∷◌, ◌++◌, append_assoc, rules}
+use Rattle.std.proofs.Common.{◌≡◌, ◌<◌, ◌≤◌, ◌∙◌, ℕ, refl, sym, ap, subst, List, [], ◌++◌, append_assoc, rules}
 use Rattle.std.specs.Prelude.{Option, Some, None}
-use Rattle.gj_base.specs.declared.place.Place.{Place}
-use Rattle.go_syntax.specs.declared.tree.Name.{Name}
 use Rattle.go_type.specs.Levels.{tree_of}
 use Rattle.go_type.specs.Named.{NamedTy}
 use Rattle.go_type.specs.Table.{places, size}
@@ -13,11 +11,11 @@ use Rattle.go_statements.specs.Declare.{counting}
 use Rattle.go_walk.proofs.ScopeLemmas.{counts}
 use Rattle.go_typing.specs.Scopes as scopes
 use Rattle.go_syntax.specs.Tree as t
-use Rattle.go_packages.specs.Told.{types_told, function_told, number_told, decls_told}
+use Rattle.go_packages.specs.Told.{types_told}
 use Rattle.go_statements.specs.Expressions.{type_in}
 use Rattle.go_syntax.specs.View.{expr_view, type_spec_view}
 use Rattle.go_syntax.specs.declared.tree.TypeSpec.{TypeSpec, out-TypeSpec, fold_out-TypeSpec}
-use Rattle.go_typing.specs.Answer.{Flaw, flaw}
+use Rattle.go_typing.specs.Answer.{Flaw}
 use Rattle.go_scopes.specs.declared.env.Env.{Env}
 use Rattle.go_scopes.specs.EnvView.{table_of, env_of}
 use Rattle.go_statements.specs.Walk.{Walk}
@@ -44,14 +42,10 @@ goes_step told a b c here rest all before now next f g h = record {
 pub iota_none : (a b : Env) → Grows a b → (env_of a).iota ≡ None → (env_of b).iota ≡ None
 iota_none a b h q = ap (λ (e : scopes.Env). e.iota) h.env ∙ q
 
--- declarations with the number of the next function
-abbrev pub numbered : Walk → ℕ × List t.Decl → List Flaw
-numbered w r = decls_told r.0 w r.1
-
 -- ---- in the specification of a number
 
 abbrev walk_in : List NamedTy → List (List Bind) → Walk
-walk_in ns ss = record { names = ns; scopes = ss; next = 0; next_label = 0; vars = []; declared = []; used = [] }
+walk_in ns ss = record { names = ns; scopes = ss; next = 0; next_label = 0; vars = []; declared = []; used = []; lost = 0 }
 
 abbrev walk_at : scopes.Env → Walk
 walk_at e = walk_in e.named_types (visible e)
@@ -72,17 +66,3 @@ type_goes w s rest old new h =
   where
     whole : (s : TypeSpec) (rest : t.TypeSpecs) → type_spec_view s rest ≡ t.MoreTypes (out-TypeSpec s).name (out-TypeSpec s).alias (expr_view (out-TypeSpec s).ty) rest
     whole s rest = search (rules, fold_out-TypeSpec)
-
--- ---- a function or a method, with its number
-
-pub function_goes : (w : Walk) (id m : ℕ) (at : Place) (n : Name) (s : t.Sig) (b : t.Block) (rest : List t.Decl) (old mid new : List Flaw) → mid ≡ old ++ function_told at n s w → new ≡ mid ++ number_told at id → m ≡ suc id
-    → new ++ decls_told m w rest ≡ old ++ decls_told id w (t.FuncDecl at n s b ∷ rest)
-function_goes w id m at n s b rest old mid new h k e =
-    ap (λ (i : ℕ). new ++ decls_told i w rest) e ∙ ap (λ (fs : List Flaw). fs ++ decls_told (suc id) w rest) (k ∙ ap (λ (fs : List Flaw). fs ++ number_told at id) h ∙ append_assoc old (function_told at n s w) (number_told at id))
-    ∙ append_assoc old (function_told at n s w ++ number_told at id) (decls_told (suc id) w rest)
-
-pub method_goes : (w : Walk) (id m : ℕ) (at p : Place) (ps : t.Params) (n : Name) (s : t.Sig) (b : t.Block) (rest : List t.Decl) (old mid new : List Flaw) → mid ≡ old ++ flaw at 0 ∷ [] → new ≡ mid ++ number_told at id → m ≡ suc id
-    → new ++ decls_told m w rest ≡ old ++ decls_told id w (t.MethodDecl at p ps n s b ∷ rest)
-method_goes w id m at p ps n s b rest old mid new h k e =
-    ap (λ (i : ℕ). new ++ decls_told i w rest) e ∙ ap (λ (fs : List Flaw). fs ++ decls_told (suc id) w rest) (k ∙ ap (λ (fs : List Flaw). fs ++ number_told at id) h ∙ append_assoc old (flaw at 0 ∷ []) (number_told at id))
-    ∙ append_assoc old (flaw at 0 ∷ number_told at id) (decls_told (suc id) w rest)

@@ -1,45 +1,17 @@
 -- What is told of functions.
-use Rattle.std.proofs.Common.{arith, ◌≡◌, ◌<◌, ◌∙◌, refl, sym, ap, List, [], ◌∷◌, ◌++◌, append_assoc, length, Bool, true, false, ◌&&◌, Option, Some, None}
+use Rattle.std.proofs.Common.{◌≡◌, ◌∙◌, sym, ap, List, [], ◌∷◌, ◌++◌, append_assoc, Bool, true, false, ◌&&◌, Option, Some, None}
 use Rattle.std.specs.Prelude.{if◌then◌else◌}
 use Rattle.std.proofs.lemmas.List.{append-nil}
 use Rattle.gj_base.specs.declared.place.Place.{Place}
 use Rattle.go_syntax.specs.Tree as t
 use Rattle.go_syntax.specs.declared.tree.Name.{Name}
-use Rattle.go_type.specs.Tree.{Ty, no_tys}
-use Rattle.go_type.specs.Levels.{trees_of}
-use Rattle.go_type.specs.declared.types.TypeId.{TypeId}
 use Rattle.go_typing.specs.Answer.{Flaw, flaw}
 use Rattle.go_statements.specs.Walk.{Walk}
 use Rattle.go_packages.specs.Signature.{SigTypes, sig_flaws, sig_types}
 use Rattle.go_packages.specs.Items.{is_init}
 use Rattle.go_packages.specs.Told.{is_main, takes_something, main_told, function_told}
 
-abbrev sig_of : List Ty → List TypeId → List TypeId → SigTypes
-sig_of ts ps rs = record { params = trees_of ts ps; results = trees_of ts rs }
-
-pub takes_by_results : (ts : List Ty) (ps rs : List TypeId) → length ps ≡ 0 → takes_something (record { params = no_tys; results = trees_of ts rs }) ≡ takes_something (sig_of ts ps rs)
-takes_by_results ts [] rs h = refl
-takes_by_results ts (p ∷ ps) rs h = absurd (omega arith)
-
-pub takes_params : (ts : List Ty) (ps rs : List TypeId) → (length ps ≡ 0 → ⊥) → takes_something (sig_of ts ps rs) ≡ true
-takes_params ts [] rs h = absurd (h refl)
-takes_params ts (p ∷ ps) rs h = refl
-
-pub none_taken : (ts : List Ty) (rs : List TypeId) → length rs ≡ 0 → false ≡ takes_something (record { params = no_tys; results = trees_of ts rs })
-none_taken ts [] h = refl
-none_taken ts (r ∷ rs) h = absurd (omega arith)
-
-pub some_taken : (ts : List Ty) (rs : List TypeId) → 0 < length rs → true ≡ takes_something (record { params = no_tys; results = trees_of ts rs })
-some_taken ts [] h = absurd (omega arith)
-some_taken ts (r ∷ rs) h = refl
-
 -- ---- `main`
-
-pub and_on : (a b r : Bool) → a ≡ true → r ≡ b → r ≡ (a && b)
-and_on a b r h k = k ∙ sym (ap (λ (x : Bool). x && b) h)
-
-pub and_off : (a b : Bool) → a ≡ false → false ≡ (a && b)
-and_off a b h = sym (ap (λ (x : Bool). x && b) h)
 
 main_by : (n : Name) (s : SigTypes) (r : Bool) → r ≡ (is_main n && takes_something s) → main_told n (Some s) ≡ (if r then flaw n.place 99 ∷ [] else [])
 main_by n s r h = by_test (is_main n) (takes_something s) h

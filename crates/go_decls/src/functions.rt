@@ -1,11 +1,10 @@
-//! Functions: signatures, `main`, `init`, and how many there are.
+//! Functions: signatures, `main` and `init`.
 
-ghost use Rattle.std.specs.Prelude.{◌≡◌, ◌++◌, ◌&&◌, List, Some, OnOk, IfOk, map, option_map};
-ghost use Rattle.go_type.specs.Tree.{Ty, no_tys};
-ghost use Rattle.go_type.specs.Levels.{trees_of};
+ghost use Rattle.std.specs.Prelude.{◌≡◌, ◌++◌, List, Some, OnOk, map, option_map};
+ghost use Rattle.go_type.specs.Tree.{Ty};
 ghost use Rattle.go_syntax.specs.View.{sig_view};
 ghost use Rattle.go_answers.specs.AnswerView.{flaw_view};
-ghost use Rattle.go_packages.specs.Told.{is_main, main_told, number_told, function_told, takes_something};
+ghost use Rattle.go_packages.specs.Told.{main_told, function_told};
 ghost use Rattle.go_walk.specs.WalkView.{walk_outside};
 ghost use Rattle.go_typed.specs.Raw.{Grows};
 ghost use Rattle.go_signatures.specs.SigView.{sig_found};
@@ -13,40 +12,12 @@ ghost use Rattle.go_signatures.specs.SigView.{sig_found};
 use gj_base::{NoMemory, Place};
 use go_answers::answer::Flaw;
 use go_answers::rule::and_flaw;
-use go_items::count::is_main;
 use go_items::item::is_init;
 use go_scopes::Env;
+use go_signatures::entry::main_takes;
 use go_signatures::{SigTypes, sig_types};
 use go_syntax::tree::{Name, Sig};
-use go_type::types::TypeId;
 use std::alloc::Global;
-
-fn is_some(ids: &[TypeId]) -> bool
-    ensures value { (ts : List Ty) → result ≡ takes_something (record { params = no_tys; results = trees_of ts ids.now }) }
-{
-    if ids.is_empty() {
-        return false;
-    }
-    true
-}
-
-fn takes_something(types: &SigTypes) -> bool
-    ensures value { (ts : List Ty) → result ≡ takes_something (sig_found ts types.now) }
-{
-    if types.params.is_empty() {
-        return is_some(types.results.as_slice());
-    }
-    true
-}
-
-fn main_takes(n: &Name, types: &SigTypes) -> bool
-    ensures value { (ts : List Ty) → result ≡ (is_main n.now && takes_something (sig_found ts types.now)) }
-{
-    if is_main(n) {
-        return takes_something(types);
-    }
-    false
-}
 
 // `main` has no parameters and no results (99).
 fn typed_told(
@@ -80,18 +51,6 @@ fn main_told(
             Ok(())
         }
     }
-}
-
-/// Adds what is told of the number of a function (79).
-///
-/// Own: there are at most so many functions.
-pub fn number_told(alloc: Global, flaws: &mut Vec<Flaw>, at: Place, id: u32) -> Result<(), NoMemory>
-    ensures told { OnOk result (map flaw_view flaws.new.items ≡ map flaw_view flaws.old.items ++ number_told at id) }
-{
-    if id == 65535 {
-        return and_flaw(alloc, flaws, at, 79);
-    }
-    Ok(())
 }
 
 /// Adds what is told of a function, its body aside. A function `init` is not built yet.

@@ -41,7 +41,7 @@ pub depth_kept : (a b : Walk) → Stays a b → 0 < depth a → 0 < depth b
 depth_kept a b s h = let e : depth b ≡ depth a = depth_grown a.env b.env s.grows in omega (arith, e, h)
 
 abbrev outside : List NamedTy → List (List Bind) → go.Walk
-outside ns ss = record { names = ns; scopes = ss; next = 0; next_label = 0; vars = []; declared = []; used = [] }
+outside ns ss = record { names = ns; scopes = ss; next = 0; next_label = 0; vars = []; declared = []; used = []; lost = 0 }
 
 pub outside_grown : (a b : Env) → Grows a b → walk_outside b ≡ walk_outside a
 outside_grown a b g = ap (λ (ns : List NamedTy). outside ns (scopes_of b)) (names_grown a b g) ∙ ap (outside (names_of a)) (scopes_grown a b g)

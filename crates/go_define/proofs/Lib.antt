@@ -4,4 +4,5 @@ mod FineLemmas
 mod DefineLemmas
 mod AllLemmas
 mod SpotLemmas
+mod UseLemmas
 mod TopLemmas

@@ -32,20 +32,20 @@ use Rattle.go_define.proofs.FineLemmas.{fine_right, right_and}
 
 -- ---- of the walk only names and scopes are asked
 
-abbrev walk_at : List NamedTy → List (List Bind) → ℕ → ℕ → List Var → List Name → List Place → Walk
-walk_at ns ss n l vs ds us = record { names = ns; scopes = ss; next = n; next_label = l; vars = vs; declared = ds; used = us }
+abbrev walk_at : List NamedTy → List (List Bind) → ℕ → ℕ → List Var → List Name → List Place → ℕ → Walk
+walk_at ns ss n l vs ds us z = record { names = ns; scopes = ss; next = n; next_label = l; vars = vs; declared = ds; used = us; lost = z }
 
-module _ (ns : List NamedTy) (ss : List (List Bind)) (n l : ℕ) (vs : List Var) (ds : List Name) (us : List Place) where
+module _ (ns : List NamedTy) (ss : List (List Bind)) (n l : ℕ) (vs : List Var) (ds : List Name) (us : List Place) (z : ℕ) where
   abbrev some_walk : Walk
-  some_walk = walk_at ns ss n l vs ds us
+  some_walk = walk_at ns ss n l vs ds us z
 
   abbrev no_walk : Walk
-  no_walk = walk_at ns ss 0 0 [] [] []
+  no_walk = walk_at ns ss 0 0 [] [] [] 0
 
   by_same : (at : Place) (x : List ℕ) (b : Bool) (o : Option Place) → spot_by some_walk (if b then blank_name else fresh_by at x o) ≡ spot_by no_walk (if b then blank_name else fresh_by at x o)
   by_same at x true o = refl
   by_same at x false None = refl
-  by_same at x false (Some p) = ap old_spot (left_same ns ss n l vs ds us (NameExpr at x))
+  by_same at x false (Some p) = ap old_spot (left_same ns ss n l vs ds us z (NameExpr at x))
 
   pub spot_same : (e : Expr) → spot_of some_walk e ≡ spot_of no_walk e
   spot_same (NameExpr at x) = by_same at x (is_blank x) (is_there (name_of at x) no_walk)

@@ -18,7 +18,7 @@ use Rattle.go_answers.specs.declared.answer.Flaw as code
 use Rattle.go_callee.specs.Words.{types_of, names_of, scopes_of}
 use Rattle.go_statements.specs.Walk as go
 use Rattle.go_statements.specs.Walk.{Did, uses_all}
-use Rattle.go_statements.specs.Assign.{names_flaws, left_uses, define, define_flaws, define_by, several_right, first_place, where_typed, sides_told, undeclared}
+use Rattle.go_statements.specs.Assign.{names_flaws, fresh_uses, define, define_flaws, define_by, several_right, first_place, where_typed, sides_told, undeclared}
 use Rattle.go_walk.specs.WalkView.{walk_of, walk_outside, depth}
 use Rattle.go_walk.specs.declared.walk.Walk.{Walk}
 use Rattle.go_typed.specs.Raw.{Raw, raws_of}
@@ -35,8 +35,8 @@ use Rattle.go_define.proofs.FreshLemmas.{outside_grown, freshes_kept, freshes_be
 use Rattle.go_define.proofs.SpotLemmas.{spots_same, names_same, parts_all, define_all}
 use Rattle.go_define.proofs.AllLemmas.{sides_said}
 
-pub uses_both : (X Y : t.Exprs) (a b c : Walk) → Moves (left_uses X) a b → Moves (uses_all Y) b c → Moves (λ w. uses_all Y (left_uses X w)) a c
-uses_both X Y a b c h k = moves_on (left_uses X) (uses_all Y) a b c h k
+pub uses_both : (X Y : t.Exprs) (a b c : Walk) → Moves (fresh_uses X) a b → Moves (uses_all Y) b c → Moves (λ w. uses_all Y (fresh_uses X w)) a c
+uses_both X Y a b c h k = moves_on (fresh_uses X) (uses_all Y) a b c h k
 
 pub freshes_later : (b c : Walk) (fs : List code_fresh.Fresh) (ss : List Spot) → Stays b c → AllByRecursion (FreshBelow (size (table_of b.env))) fs → fresh_after (types_of b.env) fs [] ≡ ss → fresh_after (types_of c.env) fs [] ≡ ss
 freshes_later b c fs ss s h p = freshes_kept (table_of b.env) (table_of c.env) fs s.grows.kept h ∙ p
@@ -68,17 +68,17 @@ abbrev by : List NamedTy → Place → List Flaw → List Spot → List Raw → 
 by ns at fs ss rs u = defined_by ns at fs ss rs (several_in rs) u
 
 abbrev both : t.Exprs → t.Exprs → go.Walk → go.Walk
-both X Y w = uses_all Y (left_uses X w)
+both X Y w = uses_all Y (fresh_uses X w)
 
 -- the environment before the values are typed, at the walk before the statement
 said : (at : Place) (X Y : List t.Expr) (a : Walk) (e : Env) (ns : List NamedTy) (fs : List Flaw) (ss : List Spot) (rs : List Raw) (ts : List Ty) (u : go.Walk) → e ≡ a.env → ns ≡ names_of e → fs ≡ names_told (walk_outside e) at X ss rs → ss ≡ spots_of (walk_outside e) X → rs ≡ raws_of (names_of e) (scopes_of e) Y
     → by ns at fs ss rs u ≡ define_by at (walk_of ts a) (define_flaws at (walk_of ts a) (exprs_of X) (exprs_of Y)) (exprs_of X) (exprs_of Y) (several_right (walk_of ts a) (exprs_of Y)) u
 said at X Y a e ns fs ss rs ts u p q r h k =
     let w = walk_of ts a in
-    let same : ss ≡ spots_of w X = h ∙ ap (λ (x : Env). spots_of (walk_outside x) X) p ∙ sym (spots_same (names_of a.env) (scopes_of a.env) a.next a.next_label (map (var_of ts) a.vars.items) a.declared.items a.used.items X) in
+    let same : ss ≡ spots_of w X = h ∙ ap (λ (x : Env). spots_of (walk_outside x) X) p ∙ sym (spots_same (names_of a.env) (scopes_of a.env) a.next a.next_label (map (var_of ts) a.vars.items) a.declared.items a.used.items a.lost X) in
     let values : rs ≡ raws_of (names_of a.env) (scopes_of a.env) Y = k ∙ ap (λ (x : Env). raws_of (names_of x) (scopes_of x) Y) p in
     let told : fs ≡ names_told w at X ss rs =
-    r ∙ ap (λ (x : Env). names_told (walk_outside x) at X ss rs) p ∙ ap (λ (g : List Flaw). g ++ new_told at X ss rs) (sym (names_same (names_of a.env) (scopes_of a.env) a.next a.next_label (map (var_of ts) a.vars.items) a.declared.items a.used.items [] X)) in
+    r ∙ ap (λ (x : Env). names_told (walk_outside x) at X ss rs) p ∙ ap (λ (g : List Flaw). g ++ new_told at X ss rs) (sym (names_same (names_of a.env) (scopes_of a.env) a.next a.next_label (map (var_of ts) a.vars.items) a.declared.items a.used.items a.lost [] X)) in
     ap (λ (x : List NamedTy). by x at fs ss rs u) (q ∙ ap names_of p)
     ∙ ap (λ (x : List Flaw). by (names_of a.env) at x ss rs u) told
     ∙ ap (λ (x : List Spot). by (names_of a.env) at (names_told w at X x rs) x rs u) same
@@ -96,7 +96,7 @@ define_does at X Y a b c d fs ss rs f0 f1 o0 o1 m e s r h k z =
     (does_moved f g a c d f0 f1 o0 o1 (moves_on f (λ w. w) a b c m (moves_stays b c s)) z)
 
 -- by what is told of each name, of all of them, and of the values
-pub define_done : (at : Place) (X Y : List t.Expr) (a b c d e : Walk) (g0 g1 g2 : List code.Flaw) (ss : List Spot) (rs : List Raw) (f0 f1 : List code.Flaw) (o0 o1 : List CoreStmt) → Moves (λ w. uses_all (exprs_of Y) (left_uses (exprs_of X) w)) a b → b.env ≡ a.env → Stays b c → Stays c d
+pub define_done : (at : Place) (X Y : List t.Expr) (a b c d e : Walk) (g0 g1 g2 : List code.Flaw) (ss : List Spot) (rs : List Raw) (f0 f1 : List code.Flaw) (o0 o1 : List CoreStmt) → Moves (λ w. uses_all (exprs_of Y) (fresh_uses (exprs_of X) w)) a b → b.env ≡ a.env → Stays b c → Stays c d
     → g0 ≡ [] → map flaw_view g1 ≡ map flaw_view g0 ++ names_flaws (walk_outside b.env) [] (exprs_of X) → map flaw_view g2 ≡ map flaw_view g1 ++ new_told at X ss rs
     → ss ≡ spots_of (walk_outside c.env) X → rs ≡ raws_of (names_of c.env) (scopes_of c.env) Y → Does (defined_by (names_of d.env) at (map flaw_view g2) ss rs (several_in rs)) d e f0 f1 o0 o1
     → Does (define at (exprs_of X) (exprs_of Y)) a e f0 f1 o0 o1
@@ -113,17 +113,17 @@ undeclared_said : (at p : Place) (X Y : List t.Expr) (a : Walk) (e : Env) (fs : 
 undeclared_said at p X Y a e fs ss rs ts q r h k z =
     let w = walk_of ts a in
     let f = flaw (first_place (exprs_of X) at) 83 in
-    let same : ss ≡ spots_of w X = h ∙ ap (λ (x : Env). spots_of (walk_outside x) X) q ∙ sym (spots_same (names_of a.env) (scopes_of a.env) a.next a.next_label (map (var_of ts) a.vars.items) a.declared.items a.used.items X) in
+    let same : ss ≡ spots_of w X = h ∙ ap (λ (x : Env). spots_of (walk_outside x) X) q ∙ sym (spots_same (names_of a.env) (scopes_of a.env) a.next a.next_label (map (var_of ts) a.vars.items) a.declared.items a.used.items a.lost X) in
     let values : rs ≡ raws_of (names_of a.env) (scopes_of a.env) Y = k ∙ ap (λ (x : Env). raws_of (names_of x) (scopes_of x) Y) q in
     let told : fs ≡ names_flaws w [] (exprs_of X) =
-    r ∙ ap (λ (x : Env). names_flaws (walk_outside x) [] (exprs_of X)) q ∙ sym (names_same (names_of a.env) (scopes_of a.env) a.next a.next_label (map (var_of ts) a.vars.items) a.declared.items a.used.items [] X) in
+    r ∙ ap (λ (x : Env). names_flaws (walk_outside x) [] (exprs_of X)) q ∙ sym (names_same (names_of a.env) (scopes_of a.env) a.next a.next_label (map (var_of ts) a.vars.items) a.declared.items a.used.items a.lost [] X) in
     ap (λ (x : Place). parts_flaws (flaw x 83) fs ss rs) z
     ∙ ap (λ (x : List Flaw). parts_flaws f x ss rs) told
     ∙ ap (λ (x : List Spot). parts_flaws f (names_flaws w [] (exprs_of X)) x rs) same
     ∙ ap (λ (x : List Raw). parts_flaws f (names_flaws w [] (exprs_of X)) (spots_of w X) x) values
     ∙ parts_all f w (names_flaws w [] (exprs_of X)) X Y
 
-pub undeclared_done : (at p : Place) (X Y : List t.Expr) (a b c d : Walk) (g0 g1 : List code.Flaw) (typed : Bool) (ss : List Spot) (rs : List Raw) (f0 f1 f2 : List code.Flaw) (out : List CoreStmt) → Moves (λ w. uses_all (exprs_of Y) (left_uses (exprs_of X) w)) a b → b.env ≡ a.env → Stays b c → Stays c d
+pub undeclared_done : (at p : Place) (X Y : List t.Expr) (a b c d : Walk) (g0 g1 : List code.Flaw) (typed : Bool) (ss : List Spot) (rs : List Raw) (f0 f1 f2 : List code.Flaw) (out : List CoreStmt) → Moves (λ w. uses_all (exprs_of Y) (fresh_uses (exprs_of X) w)) a b → b.env ≡ a.env → Stays b c → Stays c d
     → g0 ≡ [] → map flaw_view g1 ≡ map flaw_view g0 ++ names_flaws (walk_outside b.env) [] (exprs_of X) → ss ≡ spots_of (walk_outside c.env) X → rs ≡ raws_of (names_of c.env) (scopes_of c.env) Y → typed ≡ spots_typed ss → p ≡ first_place (exprs_of X) at
     → map flaw_view f1 ≡ map flaw_view f0 ++ where_typed (typed && all_known rs) (all_told rs ++ map flaw_view g1) (flaw p 83 ∷ []) → map flaw_view f2 ≡ map flaw_view f1 ++ spots_flaws ss → Does (undeclared at (exprs_of X) (exprs_of Y)) a d f0 f2 out out
 undeclared_done at p X Y a b c d g0 g1 typed ss rs f0 f1 f2 out m v s k z q h r y x t u =

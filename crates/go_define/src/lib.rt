@@ -9,5 +9,6 @@ pub mod fresh;
 pub mod names;
 pub mod one;
 pub mod top;
+pub mod uses;
 
 pub use top::{define, undeclared};

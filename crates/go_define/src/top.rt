@@ -19,9 +19,9 @@ ghost use Rattle.go_define.specs.FreshView.{spots_of, freshes_view, FreshesBelow
 use crate::all::{all_defined, olds_told, parts_told};
 use crate::fresh::{Freshes, freshes_in, names_typed};
 use crate::names::{each_told, first_in, none_told};
+use crate::uses::fresh_uses;
 use gj_base::{NoMemory, Place};
 use go_answers::answer::Flaw;
-use go_assign::uses::left_uses;
 use go_core::statement::CoreStmt;
 use go_effects::{all_typed, all_used};
 use go_syntax::tree::Expr;
@@ -31,10 +31,10 @@ use go_walk::Walk;
 // The variables that both sides use. A left side that is no name may use some.
 #[tactic(auto, using(crate::proofs::TopLemmas::uses_both))]
 fn both_used(walk: &mut Walk, xs: &[Expr], ys: &[Expr]) -> Result<(), NoMemory>
-    ensures moves { OnOk result (Moves (λ w. uses_all (exprs_of (map expr_view ys.now)) (go.left_uses (exprs_of (map expr_view xs.now)) w)) walk.old walk.new) }
+    ensures moves { OnOk result (Moves (λ w. uses_all (exprs_of (map expr_view ys.now)) (go.fresh_uses (exprs_of (map expr_view xs.now)) w)) walk.old walk.new) }
     ensures env { OnOk result (walk.new.env ≡ walk.old.env) }
 {
-    left_uses(walk, xs)?;
+    fresh_uses(walk, xs)?;
     match all_used(walk, ys) {
         Ok(()) => Ok(()),
         Err(error) => Err(error),

@@ -66,17 +66,17 @@ raws_grown a b rs es g h = h ∙ ap (λ (ns : List NamedTy). raws_of ns (scopes_
 
 -- ---- a walk that stays
 
-abbrev made : List NamedTy → List (List Bind) → ℕ → ℕ → List core.Var → List Name → List Place → go.Walk
-made ns ss n l vs ds us = record { names = ns; scopes = ss; next = n; next_label = l; vars = vs; declared = ds; used = us }
+abbrev made : List NamedTy → List (List Bind) → ℕ → ℕ → List core.Var → List Name → List Place → ℕ → go.Walk
+made ns ss n l vs ds us c = record { names = ns; scopes = ss; next = n; next_label = l; vars = vs; declared = ds; used = us; lost = c }
 
-same_outside : (ns ms : List NamedTy) (ss rs : List (List Bind)) (n l : ℕ) (vs : List core.Var) (ds : List Name) (us : List Place) → ns ≡ ms → ss ≡ rs → made ns ss n l vs ds us ≡ made ms rs n l vs ds us
-same_outside ns ms ss rs n l vs ds us p q = ap (λ (xs : List NamedTy). made xs ss n l vs ds us) p ∙ ap (λ (ys : List (List Bind)). made ms ys n l vs ds us) q
+same_outside : (ns ms : List NamedTy) (ss rs : List (List Bind)) (n l : ℕ) (vs : List core.Var) (ds : List Name) (us : List Place) (c : ℕ) → ns ≡ ms → ss ≡ rs → made ns ss n l vs ds us c ≡ made ms rs n l vs ds us c
+same_outside ns ms ss rs n l vs ds us c p q = ap (λ (xs : List NamedTy). made xs ss n l vs ds us c) p ∙ ap (λ (ys : List (List Bind)). made ms ys n l vs ds us c) q
 
 -- more types alone
 pub stays_grown : (w : Walk) (e : Env) → Grows w.env e → Stays w (record w { env = e })
 stays_grown w e g = record {
   grows = g;
-  walk = λ ts. same_outside (names_of e) (names_of w.env) (scopes_of e) (scopes_of w.env) w.next w.next_label (map (var_of ts) w.vars.items) w.declared.items w.used.items (names_grown w.env e g) (scopes_grown w.env e g);
+  walk = λ ts. same_outside (names_of e) (names_of w.env) (scopes_of e) (scopes_of w.env) w.next w.next_label (map (var_of ts) w.vars.items) w.declared.items w.used.items w.lost (names_grown w.env e g) (scopes_grown w.env e g);
 }
 
 pub stays_on : (a b c : Walk) → Stays a b → Stays b c → Stays a c

@@ -34,7 +34,7 @@ use Rattle.go_heads.specs.declared.head.Head.{Head}
 -- ---- before
 
 abbrev started : List NamedTy → List (List Bind) → ℕ → Walk
-started ns ss n = record { names = ns; scopes = ss ++ [] ∷ []; next = n; next_label = 0; vars = []; declared = []; used = [] }
+started ns ss n = record { names = ns; scopes = ss ++ [] ∷ []; next = n; next_label = 0; vars = []; declared = []; used = []; lost = 0 }
 
 pub inside_same : (ts : List Ty) (w : Walk) (v : code.Walk) → visible (env_of v.env) ≡ w.scopes → inside (walk_of ts v) ≡ inside (at_start w (now_of v))
 inside_same ts w v h = ap (λ (ss : List (List Bind)). started (names (table_of v.env)) ss v.next) h

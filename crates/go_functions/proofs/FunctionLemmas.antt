@@ -2,6 +2,7 @@
 use Rattle.std.proofs.Common.{◌≡◌, ◌≤◌, ◌∙◌, refl, sym, ap, subst, List, [], ◌∷◌, map}
 use Rattle.std.specs.Prelude.{Option, None, IfSome, option_map, codes}
 use Rattle.std.specs.Borrow.{Bor}
+use Rattle.gj_base.specs.declared.place.Place.{Place}
 use Rattle.go_syntax.specs.View.{block_view}
 use Rattle.go_type.specs.Tree.{Ty, Tys}
 use Rattle.go_type.specs.Table.{places, size, KeepsTrees}
@@ -61,23 +62,26 @@ plain_begun ts h w old mid p e =
 
 -- ---- what comes of a function
 
-abbrev around_with : Option Tys → Around → Around
-around_with rs a = record a { results = rs }
+abbrev around_with : Option Tys → List Place → Around → Around
+around_with rs ls a = record a { results = rs; wrong_labels = ls }
 
-pub around_same : (ts : List Ty) (h : Head) (rs : Option (Bor (List TypeId))) (t : TypeTable) → Keeps t ts → IfSome h.sig (SigFoundBelow (size t)) → ((us : List Ty) → results_of us rs ≡ results_typed (option_map (sig_found us) h.sig))
-    → around_with (results_of (places t) rs) (around_head (head_view ts h)) ≡ around_head (head_view ts h)
-around_same ts h rs t k b e = ap (λ (x : Option Tys). around_with x (around_head (head_view ts h))) (e (places t) ∙ sym (ap results_typed (sig_kept t ts h.sig k b)))
+pub around_same : (ts : List Ty) (h : Head) (rs : Option (Bor (List TypeId))) (ls : List Place) (t : TypeTable) → Keeps t ts → ls ≡ [] → IfSome h.sig (SigFoundBelow (size t))
+    → ((us : List Ty) → results_of us rs ≡ results_typed (option_map (sig_found us) h.sig)) → around_with (results_of (places t) rs) ls (around_head (head_view ts h)) ≡ around_head (head_view ts h)
+around_same ts h rs ls t k none b e =
+    ap (λ (x : Option Tys). around_with x ls (around_head (head_view ts h))) (e (places t) ∙ sym (ap results_typed (sig_kept t ts h.sig k b)))
+    ∙ ap (λ (x : List Place). around_with (results_typed (option_map (sig_found ts) h.sig)) x (around_head (head_view ts h))) none
 
-module _ (w : Walk) (h : Head) (rs : Option (Bor (List TypeId))) (old mid new last : code.Walk) (before after : List Flaw) (out : List CoreStmt) (f : Func) where
+-- ls: where labels stand that have a fault, of which none is known yet
+module _ (w : Walk) (h : Head) (rs : Option (Bor (List TypeId))) (ls : List Place) (old mid new last : code.Walk) (before after : List Flaw) (out : List CoreStmt) (f : Func) where
   abbrev around_here : Around
-  around_here = record { results = results_of (types_of mid.env) rs; named_results = h.named_results; targets = []; label = None }
+  around_here = record { results = results_of (types_of mid.env) rs; named_results = h.named_results; targets = []; label = None; wrong_labels = ls; too_far = h.too_far }
 
-  pub function_done : visible (env_of old.env) ≡ w.scopes → IsReady (table_of old.env) w h
+  pub function_done : ls ≡ [] → visible (env_of old.env) ≡ w.scopes → IsReady (table_of old.env) w h
       → ((ts : List Ty) → Keeps (table_of old.env) ts → walk_of ts mid ≡ all_bound w (map grouped_view h.params.items) (inside (walk_of ts old))) → table_of mid.env ≡ table_of old.env
       → ((ts : List Ty) → results_of ts rs ≡ results_typed (option_map (sig_found ts) h.sig)) → Does (function_body (block_view h.body.now) around_here) mid new before after [] out
       → ((ts : List Ty) (d : Did) → map (stmt_view ts) out ≡ d.core → walk_of ts new ≡ d.walk → func_view ts f ≡ function_with (head_view ts h) d)
       → visible (env_of last.env) ≡ without_last (visible (env_of new.env)) → table_of last.env ≡ table_of new.env → last.next ≡ new.next → FunctionDone w old h last before after f
-  function_done outside ready begun same_mid results does func closed same_last same_next = record {
+  function_done none outside ready begun same_mid results does func closed same_last same_next = record {
     told = λ ts q. (done ts q).told;
     func = λ ts q. func ts (body_by w (now_of old) (head_view ts h)) (done ts q).core (done ts q).walk;
     next = λ ts q. next_is ts (body_by w (now_of old) (head_view ts h)) new last (done ts q).walk same_last same_next;
@@ -98,4 +102,4 @@ module _ (w : Walk) (h : Head) (rs : Option (Bor (List TypeId))) (old mid new la
       done : (ts : List Ty) → Keeps (table_of last.env) ts → BodyDone ts (body_by w (now_of old) (head_view ts h)) new before after out
       done ts q =
           body_done ts w (now_of old) h around_here mid new before after out (begun ts (keeps_old ts q) ∙ ap (all_bound w (map grouped_view h.params.items)) (inside_same ts w old outside))
-          (around_same ts h rs (table_of mid.env) (keeps_mid ts q) (subst (λ (t : TypeTable). IfSome h.sig (SigFoundBelow (size t))) (sym same_mid) ready.sig) results) (subst (λ (t : TypeTable). Keeps t ts) same_last q) does
+          (around_same ts h rs ls (table_of mid.env) (keeps_mid ts q) none (subst (λ (t : TypeTable). IfSome h.sig (SigFoundBelow (size t))) (sym same_mid) ready.sig) results) (subst (λ (t : TypeTable). Keeps t ts) same_last q) does

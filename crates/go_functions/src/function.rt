@@ -49,9 +49,12 @@ pub fn function(
     ensures depth { OnOk result (depth walk.new ≡ depth walk.old) }
 {
     begin(walk, &head)?;
+    let none = Vec::new(alloc);
     let around = Around {
         results: results_of(&head.sig),
         named: head.named_results,
+        wrong_labels: none.as_slice(),
+        too_far: head.too_far,
     };
     match function_body(walk, flaws, &around, head.body) {
         Ok(stmts) => Ok(end(alloc, walk, head, stmts)),

@@ -30,12 +30,13 @@ use Rattle.go_heads.proofs.KeepLemmas.{keeps_before, types_below, sig_below}
 
 -- ---- one
 
-abbrev made : Place → List ℕ → List Param → Option SigTypes → Bool → t.Block → go.Head
-made at x ps s named b = record { place = at; name = x; params = ps; sig = s; named_results = named; body = b }
+abbrev made : Place → List ℕ → List Param → Option SigTypes → Bool → Option Place → t.Block → go.Head
+made at x ps s named far b = record { place = at; name = x; params = ps; sig = s; named_results = named; too_far = far; body = b }
 
-pub made_same : (at : Place) (x y : List ℕ) (ps qs : List Param) (s r : Option SigTypes) (m n : Bool) (b : t.Block) → x ≡ y → ps ≡ qs → s ≡ r → m ≡ n → made at x ps s m b ≡ made at y qs r n b
-made_same at x y ps qs s r m n b ex ep es en =
-    ap (λ (z : List ℕ). made at z ps s m b) ex ∙ ap (λ (zs : List Param). made at y zs s m b) ep ∙ ap (λ (z : Option SigTypes). made at y qs z m b) es ∙ ap (λ (z : Bool). made at y qs r z b) en
+pub made_same : (at : Place) (x y : List ℕ) (ps qs : List Param) (s r : Option SigTypes) (m n : Bool) (f g : Option Place) (b : t.Block) → x ≡ y → ps ≡ qs → s ≡ r → m ≡ n → f ≡ g → made at x ps s m f b ≡ made at y qs r n g b
+made_same at x y ps qs s r m n f g b ex ep es en ef =
+    ap (λ (z : List ℕ). made at z ps s m f b) ex ∙ ap (λ (zs : List Param). made at y zs s m f b) ep ∙ ap (λ (z : Option SigTypes). made at y qs z m f b) es ∙ ap (λ (z : Bool). made at y qs r z f b) en
+    ∙ ap (λ (z : Option Place). made at y qs r n z b) ef
 
 -- as many types as parameters
 pub counted : {X Y Z : Type 0} (f : X → Z) (g : Y → Z) (xs : List X) (ys : List Y) → map f xs ≡ map g ys → length ys ≡ length xs
@@ -59,15 +60,15 @@ all_and : (t : TypeTable) (w : Walk) (hs : List Head) (h : Head) → AreReady t 
 all_and t w [] h l r = (r, tt)
 all_and t w (g ∷ hs) h l r = (l.0, all_and t w hs h l.1 r)
 
-pub left_first : (a : Env) (hs : List Head) (all : List t.Decl) → HeadsLeft a a hs hs all all
-left_first a hs all = record { view = λ ts k. refl; ready = λ l. l; grows = grows_not a }
+pub left_first : (far : Option Place) (a : Env) (hs : List Head) (all : List t.Decl) → HeadsLeft far a a hs hs all all
+left_first far a hs all = record { view = λ ts k. refl; ready = λ l. l; grows = grows_not a }
 
-pub left_on : (a b c : Env) (old mid new : List Head) (rest here all : List t.Decl) → HeadsLeft a b old mid here all → HeadsLeft b c mid new rest here → HeadsLeft a c old new rest all
-left_on a b c old mid new rest here all h k =
+pub left_on : (far : Option Place) (a b c : Env) (old mid new : List Head) (rest here all : List t.Decl) → HeadsLeft far a b old mid here all → HeadsLeft far b c mid new rest here → HeadsLeft far a c old new rest all
+left_on far a b c old mid new rest here all h k =
     let same : walk_outside b ≡ walk_outside a = same_walk a b h.grows in
     record {
       view = λ ts q.
-          subst (λ (w : Walk). map (head_view ts) new ++ heads_from w rest ≡ map (head_view ts) mid ++ heads_from w here) same (k.view ts q) ∙ h.view ts (keeps_before b c ts k.grows q);
+          subst (λ (w : Walk). map (head_view ts) new ++ heads_from far w rest ≡ map (head_view ts) mid ++ heads_from far w here) same (k.view ts q) ∙ h.view ts (keeps_before b c ts k.grows q);
       ready = λ l. subst (λ (w : Walk). AreReady (table_of c) w new) same (k.ready (subst (λ (w : Walk). AreReady (table_of b) w mid) (sym same) (h.ready l)));
       grows = grows_on a b c h.grows k.grows;
     }
@@ -81,24 +82,24 @@ pub function_seen : (d : Decl) (f : DeclForm) (r : Option Params) (n : Name) (s 
 function_seen d f r n s b p q e =
     decl_whole d ∙ ap (λ (g : DeclForm). decl_form_view g d.place) (sym p ∙ q ∙ ap (λ (o : Option Params). form.Func o n s b) e) ∙ rw (← form.rolls-Func, fold-roll-DeclForm)
 
-module _ (a : Env) (at : Place) (n : Name) (s : t.Sig) (b : t.Block) (rest : List t.Decl) where
-  init_heads : (w : Walk) → is_init n ≡ true → heads_from w (t.FuncDecl at n s b ∷ rest) ≡ heads_from w rest
-  init_heads w h = ap (λ (c : Bool). if c then heads_from w rest else head_of w at n s b ∷ heads_from w rest) h
+module _ (far : Option Place) (a : Env) (at : Place) (n : Name) (s : t.Sig) (b : t.Block) (rest : List t.Decl) where
+  init_heads : (w : Walk) → is_init n ≡ true → heads_from far w (t.FuncDecl at n s b ∷ rest) ≡ heads_from far w rest
+  init_heads w h = ap (λ (c : Bool). if c then heads_from far w rest else head_of far w at n s b ∷ heads_from far w rest) h
 
-  more_heads : (w : Walk) → is_init n ≡ false → heads_from w (t.FuncDecl at n s b ∷ rest) ≡ head_of w at n s b ∷ heads_from w rest
-  more_heads w h = ap (λ (c : Bool). if c then heads_from w rest else head_of w at n s b ∷ heads_from w rest) h
+  more_heads : (w : Walk) → is_init n ≡ false → heads_from far w (t.FuncDecl at n s b ∷ rest) ≡ head_of far w at n s b ∷ heads_from far w rest
+  more_heads w h = ap (λ (c : Bool). if c then heads_from far w rest else head_of far w at n s b ∷ heads_from far w rest) h
 
-  pub left_init : (hs : List Head) → is_init n ≡ true → HeadsLeft a a hs hs rest (t.FuncDecl at n s b ∷ rest)
+  pub left_init : (hs : List Head) → is_init n ≡ true → HeadsLeft far a a hs hs rest (t.FuncDecl at n s b ∷ rest)
   left_init hs h = record { view = λ ts k. sym (ap (λ (gs : List go.Head). map (head_view ts) hs ++ gs) (init_heads (walk_outside a) h)); ready = λ l. l; grows = grows_not a }
 
-  pub left_function : (c : Env) (old new : List Head) (h : Head) → is_init n ≡ false → new ≡ old ++ h ∷ [] → ((ts : List Ty) → Keeps (table_of c) ts → head_view ts h ≡ head_of (walk_outside a) at n s b)
-      → IsReady (table_of c) (walk_outside a) h → Grows a c → HeadsLeft a c old new rest (t.FuncDecl at n s b ∷ rest)
+  pub left_function : (c : Env) (old new : List Head) (h : Head) → is_init n ≡ false → new ≡ old ++ h ∷ [] → ((ts : List Ty) → Keeps (table_of c) ts → head_view ts h ≡ head_of far (walk_outside a) at n s b)
+      → IsReady (table_of c) (walk_outside a) h → Grows a c → HeadsLeft far a c old new rest (t.FuncDecl at n s b ∷ rest)
   left_function c old new h off e v r g = record {
     view = λ ts k.
         let w = walk_outside a in
-        ap (λ (hs : List Head). map (head_view ts) hs ++ heads_from w rest) e ∙ ap (λ (gs : List go.Head). gs ++ heads_from w rest) (map-append (head_view ts) old (h ∷ []))
-        ∙ append_assoc (map (head_view ts) old) (head_view ts h ∷ []) (heads_from w rest)
-        ∙ ap (λ (x : go.Head). map (head_view ts) old ++ x ∷ heads_from w rest) (v ts k)
+        ap (λ (hs : List Head). map (head_view ts) hs ++ heads_from far w rest) e ∙ ap (λ (gs : List go.Head). gs ++ heads_from far w rest) (map-append (head_view ts) old (h ∷ []))
+        ∙ append_assoc (map (head_view ts) old) (head_view ts h ∷ []) (heads_from far w rest)
+        ∙ ap (λ (x : go.Head). map (head_view ts) old ++ x ∷ heads_from far w rest) (v ts k)
         ∙ sym (ap (λ (gs : List go.Head). map (head_view ts) old ++ gs) (more_heads w off));
     ready = λ l. subst (AreReady (table_of c) (walk_outside a)) (sym e) (all_and (table_of c) (walk_outside a) old h (all_later a c (walk_outside a) old g l) r);
     grows = g;

@@ -1,6 +1,7 @@
 -- What the functions of the code stand for, before their bodies.
-use Rattle.std.specs.Prelude.{◌≡◌, List, ◌++◌, map, option_map, length, IfSome}
+use Rattle.std.specs.Prelude.{◌≡◌, List, ◌++◌, Option, map, option_map, length, IfSome}
 use Rattle.std.specs.List.{AllByRecursion}
+use Rattle.gj_base.specs.declared.place.Place.{Place}
 use Rattle.go_syntax.specs.Tree as t
 use Rattle.go_syntax.specs.View.{block_view}
 use Rattle.go_type.specs.Tree.{Ty}
@@ -28,6 +29,7 @@ head_view ts h = record {
   params = map grouped_view h.params.items;
   sig = option_map (sig_found ts) h.sig;
   named_results = h.named_results;
+  too_far = h.too_far;
   body = block_view h.body.now;
 }
 
@@ -42,8 +44,8 @@ abbrev pub AreReady : TypeTable → Walk → List Head → Type 0
 AreReady table w hs = AllByRecursion (IsReady table w) hs
 
 -- with the functions of these declarations that are left, the list is what it was before with all
-pub record HeadsLeft (a b : Env) (old new : List Head) (rest all : List t.Decl) : Type 0 where
-  pub view : (ts : List Ty) → Keeps (table_of b) ts → map (head_view ts) new ++ heads_from (walk_outside a) rest ≡ map (head_view ts) old ++ heads_from (walk_outside a) all
+pub record HeadsLeft (far : Option Place) (a b : Env) (old new : List Head) (rest all : List t.Decl) : Type 0 where
+  pub view : (ts : List Ty) → Keeps (table_of b) ts → map (head_view ts) new ++ heads_from far (walk_outside a) rest ≡ map (head_view ts) old ++ heads_from far (walk_outside a) all
   pub ready : AreReady (table_of a) (walk_outside a) old → AreReady (table_of b) (walk_outside a) new
   pub grows : Grows a b
 

@@ -66,6 +66,7 @@ pub fn end(alloc: Global, walk: &mut Walk, head: Head<'_>, stmts: Vec<CoreStmt>)
         types: _types,
         sig,
         named_results: _named,
+        too_far: _far,
         body: _body,
     } = head;
     pop(walk);

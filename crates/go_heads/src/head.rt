@@ -1,6 +1,6 @@
 //! A function before its body.
 
-ghost use Rattle.std.specs.Prelude.{◌≡◌, ◌++◌, List, OnOk, IfOk, IfSome, map, option_map, codes};
+ghost use Rattle.std.specs.Prelude.{◌≡◌, ◌++◌, List, Some, OnOk, IfOk, IfSome, map, option_map, codes};
 ghost use Rattle.go_type.specs.Table.{size};
 ghost use Rattle.go_type.specs.Tree.{Ty};
 ghost use Rattle.go_syntax.specs.View.{sig_view, block_view};
@@ -8,6 +8,8 @@ ghost use Rattle.go_scopes.specs.EnvView.{table_of};
 ghost use Rattle.go_callee.specs.Words as words;
 ghost use Rattle.go_items.specs.ParamView.{grouped_view};
 ghost use Rattle.go_packages.specs.Signature as go;
+ghost use Rattle.go_packages.specs.Functions.{is_at, is_own, too_far};
+ghost use Rattle.go_statements.specs.Walk.{same_place};
 ghost use Rattle.go_params.specs.Bound.{type_view, TypesBelow};
 ghost use Rattle.go_signatures.specs.SigView.{sig_found, SigFoundBelow};
 ghost use Rattle.go_walk.specs.WalkView.{walk_outside, Keeps};
@@ -17,7 +19,9 @@ ghost use Rattle.go_heads.specs.HeadView.{head_view, IsReady};
 
 use gj_base::{NoMemory, Place, Text};
 use go_items::param::{Grouped, params_of, results_of, some_named};
+use go_labels::blank::is_blank;
 use go_scopes::Env;
+use go_signatures::entry::main_takes;
 use go_signatures::{SigTypes, sig_types, types_of};
 use go_syntax::tree::{Block, Name, Sig};
 use go_type::types::TypeId;
@@ -25,7 +29,7 @@ use std::alloc::Global;
 
 /// A function before its body: where it stands, the name that is told of it, its parameters and then its
 /// results, the type of each where that is known, the types of its signature where nothing is told of it,
-/// whether its results have names, and the body.
+/// whether its results have names, where it stands if it is one too many, and the body.
 #[derive(Drop)]
 pub struct Head<'a> {
     pub place: Place,
@@ -34,6 +38,7 @@ pub struct Head<'a> {
     pub types: Vec<Option<TypeId>>,
     pub sig: Option<SigTypes>,
     pub named_results: bool,
+    pub too_far: Option<Place>,
     pub body: &'a Block,
 }
 
@@ -89,16 +94,79 @@ fn named_results(alloc: Global, sig: &Sig) -> Result<bool, NoMemory>
     Ok(is_named)
 }
 
-/// A function by its declaration, in the scope of its package.
+fn same_place(p: Place, q: Place) -> bool
+    ensures value { result ≡ same_place p q }
+{
+    p.file == q.file && p.offset == q.offset
+}
+
+// Whether a name is declared by this declaration of it. Go, "Blank identifier": `_` is declared nowhere.
+fn is_own(env: &Env, n: &Name) -> bool
+    ensures value { result ≡ is_own n.now (walk_outside env.now) }
+{
+    if is_blank(&n.text) {
+        return true;
+    }
+    match env.origin(n.text.as_bytes()) {
+        Some(place) => same_place(n.place, place),
+        None => false,
+    }
+}
+
+fn is_at(far: Option<Place>, at: Place) -> bool
+    ensures value { result ≡ is_at far at }
+{
+    match far {
+        Some(place) => same_place(place, at),
+        None => false,
+    }
+}
+
+// The same where its types are known.
+fn typed_far(env: &Env, far: Option<Place>, at: Place, n: &Name, types: &SigTypes) -> Option<Place>
+    ensures value { (ts : List Ty) → result ≡ too_far far (walk_outside env.now) at n.now (Some (sig_found ts types.now)) }
+{
+    if is_at(far, at) {
+        if is_own(env, n) {
+            if main_takes(n, types) {
+                return None;
+            }
+            return Some(at);
+        }
+        return None;
+    }
+    None
+}
+
+// Where the function stands, if it is the first one too many and nothing is told of its name and its
+// signature.
+fn too_far(
+    env: &Env,
+    far: Option<Place>,
+    at: Place,
+    n: &Name,
+    sig: &Option<SigTypes>,
+) -> Option<Place>
+    ensures value { (ts : List Ty) → result ≡ too_far far (walk_outside env.now) at n.now (option_map (sig_found ts) sig.now) }
+{
+    match sig {
+        Some(types) => typed_far(env, far, at, n, types),
+        None => None,
+    }
+}
+
+/// A function by its declaration, in the scope of its package; `far` is where the first one stands that
+/// is one too many.
 pub fn head_of<'a>(
     alloc: Global,
     env: &mut Env,
+    far: Option<Place>,
     at: Place,
     n: &Name,
     sig: &'a Sig,
     b: &'a Block,
 ) -> Result<Head<'a>, NoMemory>
-    ensures view { IfOk result (λ h. (ts : List Ty) → Keeps (table_of env.new) ts → head_view ts h ≡ head_of (walk_outside env.old) at n.now (sig_view sig.now) (block_view b.now)) }
+    ensures view { IfOk result (λ h. (ts : List Ty) → Keeps (table_of env.new) ts → head_view ts h ≡ head_of far (walk_outside env.old) at n.now (sig_view sig.now) (block_view b.now)) }
     ensures ready { IfOk result (λ h. IsReady (table_of env.new) (walk_outside env.old) h) }
     ensures grows { OnOk result (Grows env.old env.new) }
 {
@@ -107,6 +175,7 @@ pub fn head_of<'a>(
     let params = all_params(alloc, sig)?;
     let found = sig_alone(alloc, env, sig)?;
     let types = types_alone(alloc, env, params.as_slice())?;
+    let own_far = too_far(env, far, at, n, &found);
     Ok(Head {
         place: at,
         name,
@@ -114,6 +183,7 @@ pub fn head_of<'a>(
         types,
         sig: found,
         named_results: is_named,
+        too_far: own_far,
         body: b,
     })
 }

@@ -1,4 +1,5 @@
 mod ListLemmas
 mod ItemLemmas
 mod CountLemmas
+mod PlaceLemmas
 mod ParamLemmas

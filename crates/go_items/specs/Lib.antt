@@ -1,3 +1,4 @@
 pub mod ItemView
 pub mod ParamView
 pub mod MainSearch
+pub mod PlaceSearch

@@ -1,15 +1,16 @@
 //! The numbers of functions.
 
-ghost use Rattle.std.specs.Prelude.{◌≡◌, ◌+◌, ◌++◌, ◌∷◌, [], suc, List, IfOk, map, if◌then◌else◌};
+ghost use Rattle.std.specs.Prelude.{◌≡◌, ◌+◌, ◌++◌, ◌∷◌, ◌-◌, ◌==◌, [], suc, List, IfOk, map, if◌then◌else◌};
 ghost use Rattle.go_syntax.specs.Tree as t;
 ghost use Rattle.go_syntax.specs.View.{decl_view, file_view};
-ghost use Rattle.go_packages.specs.Checked.{count_functions, main_from};
+ghost use Rattle.go_packages.specs.Checked.{count_functions, function_at, first_too_far, main_from};
 ghost use Rattle.go_packages.specs.Told.{is_main};
 ghost use Rattle.go_items.specs.ItemView.{decls_of};
 ghost use Rattle.go_items.specs.MainSearch.{main_after};
+ghost use Rattle.go_items.specs.PlaceSearch.{own_place, place_after};
 
-use gj_base::NoMemory;
-use go_syntax::tree::{Decl, DeclForm, File, Name};
+use gj_base::{NoMemory, Place};
+use go_syntax::tree::{Decl, DeclForm, File, Name, Params};
 
 /// Whether a name is `main`.
 pub fn is_main(name: &Name) -> bool
@@ -119,4 +120,69 @@ pub fn main_number(files: &[File]) -> Result<u32, NoMemory>
         }
     }
     Ok(n)
+}
+
+/// The function of a number was passed, which may have a core or not, or so many stand before it.
+#[derive(Clone, Copy)]
+enum Counting {
+    Passed(Option<Place>),
+    Left(u32),
+}
+
+// A function that stands here, or none that may have a core.
+fn place_at(left: u32, at: Option<Place>) -> Counting
+    ensures value { (rest : List t.Decl) → place_after result rest ≡ (if left == 0 then at else function_at (left - 1) rest) }
+{
+    if left == 0 {
+        return Counting::Passed(at);
+    }
+    Counting::Left(left - 1)
+}
+
+// A method has no core yet.
+fn own_place(receiver: &Option<Params>, at: Place) -> Option<Place>
+    ensures value { result ≡ own_place receiver.now at }
+{
+    match receiver {
+        None => Some(at),
+        Some(_) => None,
+    }
+}
+
+fn place_step(left: u32, d: &Decl) -> Counting
+    ensures value { (rest : List t.Decl) → place_after result rest ≡ function_at left (decl_view d.now ∷ rest) }
+{
+    match &*d.form {
+        DeclForm::Func(receiver, _, _, _) => place_at(left, own_place(receiver, d.place)),
+        DeclForm::Const(_) => Counting::Left(left),
+        DeclForm::TypeDecl(_) => Counting::Left(left),
+        DeclForm::Var(_) => Counting::Left(left),
+    }
+}
+
+fn place_in(left: u32, decls: &[Decl]) -> Counting
+    ensures value { (rest : List t.Decl) → place_after result rest ≡ function_at left (map decl_view decls.now ++ rest) }
+{
+    let mut n = left;
+    for d in decls {
+        match place_step(n, d) {
+            Counting::Passed(at) => return Counting::Passed(at),
+            Counting::Left(next) => n = next,
+        }
+    }
+    Counting::Left(n)
+}
+
+/// Where the first function stands that is one too many. A method is none, as it has no core yet.
+pub fn first_too_far(files: &[File]) -> Option<Place>
+    ensures value { result ≡ first_too_far (decls_of (map file_view files.now)) }
+{
+    let mut n = 65535;
+    for file in files {
+        match place_in(n, file.decls.as_slice()) {
+            Counting::Passed(at) => return at,
+            Counting::Left(next) => n = next,
+        }
+    }
+    None
 }

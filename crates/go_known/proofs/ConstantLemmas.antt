@@ -16,7 +16,7 @@ use Rattle.go_binds.specs.Stands.{Stands}
 use Rattle.go_known.proofs.OutcomeLemmas.{is_outside}
 
 abbrev walk_in : List NamedTy → List (List Bind) → Walk
-walk_in ns ss = record { names = ns; scopes = ss; next = 0; next_label = 0; vars = []; declared = []; used = [] }
+walk_in ns ss = record { names = ns; scopes = ss; next = 0; next_label = 0; vars = []; declared = []; used = []; lost = 0 }
 
 abbrev walk_at : Env → Walk
 walk_at e = walk_in e.named_types (visible e)

@@ -1,5 +1,5 @@
 -- What stands before or after statements, and statements without statements in them.
-use Rattle.std.proofs.Common.{arith, ◌≡◌, ◌≢◌, ◌<◌, ◌≤◌, ◌+◌, ◌∙◌, ℕ, zero, suc, refl, sym, ap, subst, List, [], ◌∷◌, ◌++◌, append_assoc, map, length, get_or, Bool, true, false, ◌&&◌}
+use Rattle.std.proofs.Common.{arith, ◌≡◌, ◌≢◌, ◌<◌, ◌≤◌, ◌+◌, ◌∙◌, ℕ, zero, suc, refl, sym, ap, subst, List, [], ◌∷◌, ◌++◌, append_assoc, map, length, drop, get_or, Bool, true, false, ◌&&◌, not}
 use Rattle.std.specs.Prelude.{Option, Some, None, option_map, IfSome, ◌==◌, nat_lt, if◌then◌else◌}
 use Rattle.std.proofs.lemmas.List.{append-nil, map-append}
 use Rattle.std.proofs.lemmas.Bool.Decides.{nat_tests}
@@ -34,14 +34,17 @@ use Rattle.go_callee.specs.Words.{types_of, names_of, scopes_of}
 use Rattle.go_answers.specs.AnswerView.{flaw_view}
 use Rattle.go_answers.specs.declared.answer.Flaw.{Flaw}
 use Rattle.go_statements.specs.Walk as go
-use Rattle.go_statements.specs.Walk.{Did, did, faulty, fresh, uses, uses_all}
+use Rattle.go_statements.specs.Walk.{Did, did, faulty, fresh, uses, uses_all, all_used, any_among}
 use Rattle.go_statements.specs.Expressions as expressions
 use Rattle.go_statements.specs.Expressions.{Valued, answer_in, flaws_in, core_of, condition}
 use Rattle.go_statements.specs.Assign.{where_typed, all_typed, all_in_flaws, first_place, left_uses}
 use Rattle.go_statements.specs.Statements as statements
-use Rattle.go_statements.specs.Statements.{post_did, default_flaws, is_default, tag_of, condition_uses, condition_core, condition_told, limited, many_told, where_clean, count_clauses, clauses_limit, next_label}
+use Rattle.go_statements.specs.Statements.{post_did, default_flaws, is_default, tag_of, condition_uses, condition_core, condition_told, limited, many_told, name_places, parts_typed, where_clean, count_clauses, clauses_limit, next_label}
+use Rattle.go_statements.specs.Labels.{labels_in}
 use Rattle.go_walk.specs.WalkView.{walk_of, walk_outside, Keeps, depth}
+use Rattle.go_walk.specs.declared.parts.Before.{Before}
 use Rattle.go_walk.specs.declared.walk.Walk.{Walk}
+use Rattle.go_walk.specs.Parts.{parts_since}
 use Rattle.go_typed.specs.Raw.{Raw, raws_of, Grows}
 use Rattle.go_valued.specs.Settled.{all_known, all_told}
 use Rattle.go_valued.specs.Taken.{StandsFor}
@@ -81,12 +84,12 @@ passes_on f g a b c h k = record {
     below i l = let p = h.counts in omega (arith, p, l)
 
 -- types are added alone
-grown : (ts : List Ty) (a b : Walk) → Grows a.env b.env → b.next ≡ a.next → b.next_label ≡ a.next_label → b.vars ≡ a.vars → b.declared ≡ a.declared → b.used ≡ a.used → walk_of ts b ≡ walk_of ts a
-grown ts a b g n l v d u = λ j. record { names = (g.env j).named_types; scopes = visible (g.env j); next = n j; next_label = l j; vars = map (views.var_of ts) (v j).items; declared = (d j).items; used = (u j).items }
+grown : (ts : List Ty) (a b : Walk) → Grows a.env b.env → b.next ≡ a.next → b.next_label ≡ a.next_label → b.vars ≡ a.vars → b.declared ≡ a.declared → b.used ≡ a.used → b.lost ≡ a.lost → walk_of ts b ≡ walk_of ts a
+grown ts a b g n l v d u m = λ j. record { names = (g.env j).named_types; scopes = visible (g.env j); next = n j; next_label = l j; vars = map (views.var_of ts) (v j).items; declared = (d j).items; used = (u j).items; lost = m j }
 
-pub passes_grown : (f : go.Walk → go.Walk) (a m b : Walk) → m.env ≡ a.env → ((ts : List Ty) → walk_of ts m ≡ f (walk_of ts a)) → Grows m.env b.env → b.next ≡ m.next → b.next_label ≡ m.next_label → b.vars ≡ m.vars → b.declared ≡ m.declared → b.used ≡ m.used → Passes f a b
-passes_grown f a m b p h g n l v d u = record {
-  walk = λ ts. grown ts m b g n l v d u ∙ h ts;
+pub passes_grown : (f : go.Walk → go.Walk) (a m b : Walk) → m.env ≡ a.env → ((ts : List Ty) → walk_of ts m ≡ f (walk_of ts a)) → Grows m.env b.env → b.next ≡ m.next → b.next_label ≡ m.next_label → b.vars ≡ m.vars → b.declared ≡ m.declared → b.used ≡ m.used → b.lost ≡ m.lost → Passes f a b
+passes_grown f a m b p h g n l v d u lost = record {
+  walk = λ ts. grown ts m b g n l v d u lost ∙ h ts;
   env = g.env ∙ ap env_of p;
   kept = subst (λ (e : Env). KeepsTrees (table_of e) (table_of b.env)) p g.kept;
   counts = subst (λ (e : Env). size (table_of e) ≤ size (table_of b.env)) p g.counts;
@@ -95,7 +98,7 @@ passes_grown f a m b p h g n l v d u = record {
 -- ---- conditions
 
 abbrev condition_at : scopes.Env → t.Expr → Valued
-condition_at v e = condition (record { names = v.named_types; scopes = visible v; next = 0; next_label = 0; vars = []; declared = []; used = [] }) e
+condition_at v e = condition (record { names = v.named_types; scopes = visible v; next = 0; next_label = 0; vars = []; declared = []; used = []; lost = 0 }) e
 
 pub condition_before : (us : List Ty) (a m : Walk) (b : Env) (e : t.Expr) → m.env ≡ a.env → Grows m.env b → condition (walk_outside b) e ≡ condition (walk_of us a) e
 condition_before us a m b e p g = ap (λ (v : scopes.Env). condition_at v e) (g.env ∙ ap env_of p)
@@ -242,7 +245,7 @@ count_is (c ∷ cs) = ap suc (count_is cs) ∙ ap count_clauses (sym (clause_who
 abbrev if_clean : Bool → List typing.Flaw → List typing.Flaw
 if_clean b fs = if b then fs else []
 
-clean_is : (n : ℕ) (fs gs : List typing.Flaw) → if_clean (n + length fs == n) gs ≡ where_clean fs gs
+pub clean_is : (n : ℕ) (fs gs : List typing.Flaw) → if_clean (n + length fs == n) gs ≡ where_clean fs gs
 clean_is n [] gs = ap (λ (b : Bool). if_clean b gs) (equal (n + 0) n (omega arith))
   where
     equal : (p q : ℕ) → p ≡ q → (p == q) ≡ true
@@ -252,11 +255,11 @@ clean_is n (f ∷ fs) gs = ap (λ (b : Bool). if_clean b gs) (unequal (n + lengt
     unequal : (p q : ℕ) → q < p → (p == q) ≡ false
     unequal p q h = grind (arith, nat_tests)
 
-length_view : (fs : List Flaw) → length (map flaw_view fs) ≡ length fs
+pub length_view : (fs : List Flaw) → length (map flaw_view fs) ≡ length fs
 length_view [] = refl
 length_view (f ∷ fs) = ap suc (length_view fs)
 
-length_more : (f0 f1 : List Flaw) (fs : List typing.Flaw) → map flaw_view f1 ≡ map flaw_view f0 ++ fs → length f1 ≡ length f0 + length fs
+pub length_more : (f0 f1 : List Flaw) (fs : List typing.Flaw) → map flaw_view f1 ≡ map flaw_view f0 ++ fs → length f1 ≡ length f0 + length fs
 length_more f0 f1 fs h =
     sym (length_view f1) ∙ ap (λ (x : List typing.Flaw). length x) h ∙ length_join (map flaw_view f0) fs ∙ ap (λ (n : ℕ). n + length fs) (length_view f0)
   where
@@ -264,28 +267,49 @@ length_more f0 f1 fs h =
     length_join [] ys = omega arith
     length_join (x ∷ xs) ys = let k = length_join xs ys in omega (arith, k)
 
-pub many_yes : (b : Bool) (n before count : ℕ) (at : Place) (f0 f1 : List Flaw) → b ≡ (n == before) → b ≡ true → 1000 < count → map flaw_view f1 ≡ map flaw_view f0 ++ flaw at 76 ∷ [] → map flaw_view f1 ≡ map flaw_view f0 ++ (if n == before then (if nat_lt clauses_limit count then flaw at 76 ∷ [] else []) else [])
-many_yes b n before count at f0 f1 p q l h = h ∙ (λ j. map flaw_view f0 ++ if_clean ((sym q ∙ p) j) (if_clean (sym (over count l) j) (flaw at 76 ∷ [])))
+-- whether there are too many, of what is typed
+pub many_over : (u v : Bool) (count : ℕ) → 1000 < count → u ≡ v → u ≡ (v && nat_lt clauses_limit count)
+many_over u v count l h = h ∙ sym (by v) ∙ ap (λ (x : Bool). v && x) (sym (over count l))
   where
+    by : (b : Bool) → (b && true) ≡ b
+    by true = refl
+    by false = refl
+
     over : (m : ℕ) → 1000 < m → nat_lt 1000 m ≡ true
     over m k = grind (arith, nat_tests)
 
-pub many_few : (b : Bool) (n before count : ℕ) (at : Place) (f : List Flaw) → b ≡ (n == before) → b ≡ true → count ≤ 1000 → map flaw_view f ≡ map flaw_view f ++ (if n == before then (if nat_lt clauses_limit count then flaw at 76 ∷ [] else []) else [])
-many_few b n before count at f p q l = sym (append-nil (map flaw_view f)) ∙ (λ j. map flaw_view f ++ if_clean ((sym q ∙ p) j) (if_clean (sym (under count l) j) (flaw at 76 ∷ [])))
+pub many_under : (u : Bool) (count : ℕ) → count ≤ 1000 → false ≡ (u && nat_lt clauses_limit count)
+many_under u count l = sym (by u) ∙ ap (λ (x : Bool). u && x) (sym (under count l))
   where
+    by : (b : Bool) → (b && false) ≡ false
+    by true = refl
+    by false = refl
+
     under : (m : ℕ) → m ≤ 1000 → nat_lt 1000 m ≡ false
     under m k = grind (arith, nat_tests)
 
-pub many_not : (b : Bool) (n before count : ℕ) (at : Place) (f : List Flaw) → b ≡ (n == before) → b ≡ false → map flaw_view f ≡ map flaw_view f ++ (if n == before then (if nat_lt clauses_limit count then flaw at 76 ∷ [] else []) else [])
-many_not b n before count at f p q = sym (append-nil (map flaw_view f)) ∙ (λ j. map flaw_view f ++ if_clean ((sym q ∙ p) j) (if nat_lt clauses_limit count then flaw at 76 ∷ [] else []))
+-- what is told where a test holds, and where it doesn't
+pub told_so : (b test : Bool) (fs : List typing.Flaw) (f0 f1 : List Flaw) → b ≡ test → b ≡ true → map flaw_view f1 ≡ map flaw_view f0 ++ fs → map flaw_view f1 ≡ map flaw_view f0 ++ (if test then fs else [])
+told_so b test fs f0 f1 p q h = h ∙ ap (λ (x : Bool). map flaw_view f0 ++ if_clean x fs) (sym q ∙ p)
 
-pub many_does : (at : Place) (cs : List Clause) (d : go.Walk → Did) (before count : ℕ) (a b : Walk) (f0 f1 f2 : List Flaw) (o0 o1 : List CoreStmt) → before ≡ length f0 → count ≡ length cs → Does d a b f0 f1 o0 o1
-    → map flaw_view f2 ≡ map flaw_view f1 ++ if_clean (length f1 == before) (if nat_lt clauses_limit count then flaw at 76 ∷ [] else []) → Does (λ w. limited at (joined (map clause_view cs) t.NoClauses) (d w)) a b f0 f2 o0 o1
-many_does at cs d before count a b f0 f1 f2 o0 o1 p q h k = record {
+pub not_told_so : (b test : Bool) (fs : List typing.Flaw) (f : List Flaw) → b ≡ test → b ≡ false → map flaw_view f ≡ map flaw_view f ++ (if test then fs else [])
+not_told_so b test fs f p q = sym (append-nil (map flaw_view f)) ∙ ap (λ (x : Bool). map flaw_view f ++ if_clean x fs) (sym q ∙ p)
+
+abbrev pub many_since : Before → List Place → t.Stmt → Walk → ℕ → Place → ℕ → List typing.Flaw
+many_since p wrong s w count at n = if n == p.flaws then (if parts_since p wrong s w && nat_lt clauses_limit count then flaw at 76 ∷ [] else []) else []
+
+-- whether its parts are typed, by the walk after it
+typed_is : (s : t.Stmt) (v : go.Around) (p : Before) (a b : Walk) (w : go.Walk) (ts : List Ty) → p.declared ≡ length a.declared.items → p.lost ≡ a.lost → walk_of ts b ≡ w → parts_since p v.wrong_labels s b ≡ parts_typed v s (walk_of ts a) w
+typed_is s v p a b w ts e2 e3 h = λ j. all_used (drop (e2 j) (h j).declared) (h j).used && not (any_among (name_places (labels_in s)) v.wrong_labels) && ((h j).lost == e3 j)
+
+pub many_does : (at : Place) (s : t.Stmt) (cs : List Clause) (d : go.Walk → Did) (v : go.Around) (p : Before) (count : ℕ) (a b : Walk) (f0 f1 f2 : List Flaw) (o0 o1 : List CoreStmt) → p.flaws ≡ length f0 → p.declared ≡ length a.declared.items → p.lost ≡ a.lost → count ≡ length cs → Does d a b f0 f1 o0 o1
+    → map flaw_view f2 ≡ map flaw_view f1 ++ many_since p v.wrong_labels s b count at (length f1) → Does (λ w. limited at (joined (map clause_view cs) t.NoClauses) (parts_typed v s w) (d w)) a b f0 f2 o0 o1
+many_does at s cs d v p count a b f0 f1 f2 o0 o1 e1 e2 e3 q h k = record {
   told = λ ts l.
       let fs = (d (walk_of ts a)).flaws in
-      let gs = many_told at (joined (map clause_view cs) t.NoClauses) in
-      k ∙ (λ j. map flaw_view f1 ++ if_clean ((length_more f0 f1 fs (h.told ts l)) j == p j) (if nat_lt clauses_limit ((q ∙ count_is cs) j) then flaw at 76 ∷ [] else []))
+      let gs = many_told at (joined (map clause_view cs) t.NoClauses) (parts_typed v s (walk_of ts a) (d (walk_of ts a)).walk) in
+      let typed : parts_since p v.wrong_labels s b ≡ parts_typed v s (walk_of ts a) (d (walk_of ts a)).walk = typed_is s v p a b (d (walk_of ts a)).walk ts e2 e3 (h.walk ts l) in
+      k ∙ (λ j. map flaw_view f1 ++ if_clean ((length_more f0 f1 fs (h.told ts l)) j == e1 j) (if_clean (typed j && nat_lt clauses_limit ((q ∙ count_is cs) j)) (flaw at 76 ∷ [])))
       ∙ ap (λ (x : List typing.Flaw). map flaw_view f1 ++ x) (clean_is (length f0) fs gs) ∙ ap (λ (x : List typing.Flaw). x ++ where_clean fs gs) (h.told ts l) ∙ append_assoc (map flaw_view f0) fs (where_clean fs gs);
   core = h.core;
   walk = h.walk;

@@ -1,11 +1,10 @@
 -- What is told of a body as a whole.
-use Rattle.std.proofs.Common.{arith, ◌≡◌, ◌+◌, ◌-◌, ◌∙◌, ℕ, suc, refl, sym, ap, List, [], ◌∷◌, ◌++◌, append_assoc, map, length, get_or, Bool, true, false}
+use Rattle.std.proofs.Common.{arith, ◌≡◌, ◌<◌, ◌≤◌, ◌+◌, ◌-◌, ◌∙◌, ℕ, suc, refl, sym, ap, List, [], ◌∷◌, ◌++◌, append_assoc, map, length, drop, get_or, Bool, true, false}
 use Rattle.std.specs.Prelude.{Option, Some, None, if◌then◌else◌, ◌==◌}
 use Rattle.std.specs.Borrow.{Bor}
 use Rattle.std.proofs.lemmas.List.{append-nil}
 use Rattle.std.proofs.lemmas.Bool.Decides.{nat_tests}
 use Rattle.gj_base.specs.declared.place.Place.{Place}
-use Rattle.go_syntax.specs.Tree as t
 use Rattle.go_type.specs.Tree.{Ty}
 use Rattle.go_type.specs.Table.{places}
 use Rattle.go_type.specs.declared.types.TypeId.{TypeId}
@@ -20,9 +19,13 @@ use Rattle.go_callee.specs.Words.{types_of}
 use Rattle.go_answers.specs.AnswerView.{flaw_view}
 use Rattle.go_answers.specs.declared.answer.Flaw.{Flaw}
 use Rattle.go_statements.specs.Walk.{unused}
-use Rattle.go_statements.specs.Labels.{labels_told}
+use Rattle.go_statements.specs.Statements.{where_clean, far_told, flaw_places}
+use Rattle.go_walk.specs.declared.parts.Before.{Before}
 use Rattle.go_walk.specs.declared.walk.Walk.{Walk}
-use Rattle.go_leaf.specs.Whole.{missing, if_clean, whole_told}
+use Rattle.go_simple.specs.declared.around.Around.{Around}
+use Rattle.go_leaf.specs.Whole.{missing, if_clean, function_told, rest_told}
+use Rattle.go_leaf.proofs.FallsLemmas.{next_at, past}
+use Rattle.go_leaf.proofs.LeafLemmas.{clean_is, length_view, length_more}
 
 -- ---- what is told where control comes to the end
 
@@ -51,22 +54,79 @@ module _ (o : Option (Bor (List TypeId))) (end : Place) (e : Bool) where
       k ∙ (λ j. map flaw_view f0 ++ (if (sym (some_is (length is.now) q) j) then [] else if (sym h j) then [] else flaw end 87 ∷ []))
       ∙ ap (λ (x : Option (Bor (List TypeId))). map flaw_view f0 ++ missing x end e) (sym p)
 
+-- ---- what is told of a function as a whole
+
+pub far_some : (o : Option Place) (at : Place) (f0 f1 : List Flaw) → o ≡ Some at → map flaw_view f1 ≡ map flaw_view f0 ++ flaw at 79 ∷ [] → map flaw_view f1 ≡ map flaw_view f0 ++ far_told o
+far_some o at f0 f1 p h = h ∙ ap (λ (x : Option Place). map flaw_view f0 ++ far_told x) (sym p)
+
+pub far_none : (o : Option Place) (f : List Flaw) → o ≡ None → map flaw_view f ≡ map flaw_view f ++ far_told o
+far_none o f p = sym (append-nil (map flaw_view f)) ∙ ap (λ (x : Option Place). map flaw_view f ++ far_told x) (sym p)
+
+module _ (o : Option (Bor (List TypeId))) (far : Option Place) (end : Place) (ends b : Bool) (before : ℕ) (f0 f1 : List Flaw) (p : before ≡ length f0) (h : map flaw_view f1 ≡ map flaw_view f0 ++ missing o end ends) (e : b ≡ (length f1 == before)) where
+  as_clean : if_clean (length f1 == before) (far_told far) ≡ where_clean (missing o end ends) (far_told far)
+  as_clean =
+      let counted : (length f1 == before) ≡ (length f0 + length (missing o end ends) == length f0) = λ j. length_more f0 f1 (missing o end ends) h j == p j in
+      ap (λ (x : Bool). if_clean x (far_told far)) counted ∙ clean_is (length f0) (missing o end ends) (far_told far)
+
+  pub function_clean : (f2 : List Flaw) → b ≡ true → map flaw_view f2 ≡ map flaw_view f1 ++ far_told far → map flaw_view f2 ≡ map flaw_view f0 ++ function_told o far end ends
+  function_clean f2 q k =
+      let ms = missing o end ends in
+      let fs = far_told far in
+      let all : fs ≡ where_clean ms fs = ap (λ (x : Bool). if_clean x fs) (sym q ∙ e) ∙ as_clean in
+      k ∙ ap (λ (x : List typing.Flaw). x ++ fs) h ∙ append_assoc (map flaw_view f0) ms fs ∙ ap (λ (x : List typing.Flaw). map flaw_view f0 ++ (ms ++ x)) all
+
+  pub function_other : b ≡ false → map flaw_view f1 ≡ map flaw_view f0 ++ function_told o far end ends
+  function_other q =
+      let ms = missing o end ends in
+      let none : if_clean false (far_told far) ≡ where_clean ms (far_told far) = ap (λ (x : Bool). if_clean x (far_told far)) (sym q ∙ e) ∙ as_clean in
+      h ∙ ap (λ (x : List typing.Flaw). map flaw_view f0 ++ x) (sym (append-nil ms) ∙ ap (λ (x : List typing.Flaw). ms ++ x) none)
+
+pub typed_so : (m n : ℕ) (fs : List typing.Flaw) (f0 f1 : List Flaw) → m ≡ n → map flaw_view f1 ≡ map flaw_view f0 ++ fs → map flaw_view f1 ≡ map flaw_view f0 ++ (if m == n then fs else [])
+typed_so m n fs f0 f1 p h = h ∙ ap (λ (x : Bool). map flaw_view f0 ++ if_clean x fs) (sym (equal m n p))
+  where
+    equal : (x y : ℕ) → x ≡ y → (x == y) ≡ true
+    equal x y q = grind (arith, nat_tests)
+
+pub typed_not : (m n : ℕ) (fs : List typing.Flaw) (f : List Flaw) → (m ≡ n → ⊥) → map flaw_view f ≡ map flaw_view f ++ (if m == n then fs else [])
+typed_not m n fs f p = sym (append-nil (map flaw_view f)) ∙ ap (λ (x : Bool). map flaw_view f ++ if_clean x fs) (sym (unequal m n p))
+  where
+    unequal : (x y : ℕ) → (x ≡ y → ⊥) → (x == y) ≡ false
+    unequal x y q = grind (arith, nat_tests)
+
+-- ---- where faults stand
+
+pub places_next : (fs : List Flaw) (i : ℕ) (f : Flaw) (old now all : List Place) → i < length fs → f ≡ get_or fs i f → now ≡ old ++ f.place ∷ [] → old ++ flaw_places (map flaw_view (drop i fs)) ≡ all → now ++ flaw_places (map flaw_view (drop (i + 1) fs)) ≡ all
+places_next fs i f old now all h e q p =
+    let rest = flaw_places (map flaw_view (drop (i + 1) fs)) in
+    ap (λ (x : List Place). x ++ rest) q ∙ append_assoc old (f.place ∷ []) rest ∙ ap (λ (gs : List Flaw). old ++ flaw_places (map flaw_view gs)) (sym (next_at fs i f h e)) ∙ p
+
+pub places_last : (fs : List Flaw) (i : ℕ) (now all : List Place) → length fs ≤ i → now ++ flaw_places (map flaw_view (drop i fs)) ≡ all → now ≡ all
+places_last fs i now all h p = sym (append-nil now) ∙ ap (λ (gs : List Flaw). now ++ flaw_places (map flaw_view gs)) (sym (past fs i h)) ∙ p
+
 -- ---- one after the other
 
-pub whole_clean : (results : Option (Bor (List TypeId))) (b : t.Block) (end : Place) (w : Walk) (clean ends : Bool) (f0 f1 f2 f3 : List Flaw) → clean ≡ true → map flaw_view f1 ≡ map flaw_view f0 ++ labels_told b → map flaw_view f2 ≡ map flaw_view f1 ++ unused w.declared.items w.used.items
-    → map flaw_view f3 ≡ map flaw_view f2 ++ missing results end ends → map flaw_view f3 ≡ map flaw_view f0 ++ whole_told results b end w clean ends
-whole_clean results b end w clean ends f0 f1 f2 f3 p h k m =
-    let ls = labels_told b in
-    let us = unused w.declared.items w.used.items in
-    let ms = missing results end ends in
-    m ∙ ap (λ (x : List typing.Flaw). x ++ ms) (k ∙ ap (λ (x : List typing.Flaw). x ++ us) h ∙ append_assoc (map flaw_view f0) ls us) ∙ append_assoc (map flaw_view f0) (ls ++ us) ms ∙ ap (λ (c : Bool). map flaw_view f0 ++ (ls ++ us ++ if_clean c ms)) (sym p)
+module _ (a : Around) (end : Place) (before : Before) (ls : List typing.Flaw) (w : Walk) (ends b : Bool) (f0 f1 f2 : List Flaw) (h : map flaw_view f1 ≡ map flaw_view f0 ++ ls) (k : map flaw_view f2 ≡ map flaw_view f1 ++ unused w.declared.items w.used.items) (e : b ≡ (length f2 == before.flaws)) where
+  abbrev us : List typing.Flaw
+  us = unused w.declared.items w.used.items
 
-pub whole_other : (results : Option (Bor (List TypeId))) (b : t.Block) (end : Place) (w : Walk) (clean ends : Bool) (f0 f1 f2 : List Flaw) → clean ≡ false → map flaw_view f1 ≡ map flaw_view f0 ++ labels_told b → map flaw_view f2 ≡ map flaw_view f1 ++ unused w.declared.items w.used.items
-    → map flaw_view f2 ≡ map flaw_view f0 ++ whole_told results b end w clean ends
-whole_other results b end w clean ends f0 f1 f2 p h k =
-    let ls = labels_told b in
-    let us = unused w.declared.items w.used.items in
-    k ∙ ap (λ (x : List typing.Flaw). x ++ us) h ∙ append_assoc (map flaw_view f0) ls us ∙ ap (λ (x : List typing.Flaw). map flaw_view f0 ++ x) (sym (append-nil (ls ++ us))) ∙ ap (λ (c : Bool). map flaw_view f0 ++ (ls ++ us ++ if_clean c (missing results end ends))) (sym p)
+  abbrev rest : List typing.Flaw
+  rest = if w.lost == before.lost then function_told a.results a.too_far end ends else []
+
+  so_far : map flaw_view f2 ≡ map flaw_view f0 ++ ls ++ us
+  so_far = k ∙ ap (λ (x : List typing.Flaw). x ++ us) h
+
+  same_count : b ≡ (length (map flaw_view f0 ++ ls ++ us) == before.flaws)
+  same_count = e ∙ ap (λ (n : ℕ). n == before.flaws) (sym (length_view f2) ∙ ap (λ (x : List typing.Flaw). length x) so_far)
+
+  pub whole_clean : (f3 : List Flaw) → b ≡ true → map flaw_view f3 ≡ map flaw_view f2 ++ rest → map flaw_view f3 ≡ map flaw_view f0 ++ rest_told a end before (map flaw_view f0) ls w ends
+  whole_clean f3 q m =
+      m ∙ ap (λ (x : List typing.Flaw). x ++ rest) (so_far ∙ append_assoc (map flaw_view f0) ls us) ∙ append_assoc (map flaw_view f0) (ls ++ us) rest
+      ∙ ap (λ (x : Bool). map flaw_view f0 ++ (ls ++ us ++ if_clean x rest)) (sym q ∙ same_count)
+
+  pub whole_other : b ≡ false → map flaw_view f2 ≡ map flaw_view f0 ++ rest_told a end before (map flaw_view f0) ls w ends
+  whole_other q =
+      so_far ∙ append_assoc (map flaw_view f0) ls us ∙ ap (λ (x : List typing.Flaw). map flaw_view f0 ++ x) (sym (append-nil (ls ++ us)))
+      ∙ ap (λ (x : Bool). map flaw_view f0 ++ (ls ++ us ++ if_clean x rest)) (sym q ∙ same_count)
 
 -- ---- the last statement decides
 

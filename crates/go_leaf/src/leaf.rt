@@ -16,6 +16,7 @@ ghost use Rattle.go_statements.specs.Expressions as go;
 ghost use Rattle.go_statements.specs.Labels as labels;
 ghost use Rattle.go_statements.specs.Statements as statements;
 ghost use Rattle.go_statements.specs.Statements.{condition_core, condition_told, clauses_limit, condition_uses, default_flaws, post_did};
+ghost use Rattle.go_walk.specs.Parts.{parts_since};
 ghost use Rattle.go_walk.specs.WalkView.{walk_of, depth, Keeps};
 ghost use Rattle.go_valued.specs.Taken.{StandsFor};
 ghost use Rattle.go_valued.specs.Outcome.{Does};
@@ -34,6 +35,7 @@ use go_valued::taken::core_of;
 use go_valued::told::move_flaws;
 use go_valued::valued::{Valued, condition};
 use go_walk::Walk;
+use go_walk::parts::{Before, parts_typed};
 use go_walk::uses::use_expr;
 
 /// What a label declares.
@@ -187,21 +189,56 @@ pub fn is_clean(flaws: &Vec<Flaw>, before: usize) -> bool
     flaws.len() == before
 }
 
-/// A `switch` of too many clauses is told where nothing is told of its parts (76).
-#[tactic(auto, using(crate::proofs::LeafLemmas::many_yes, crate::proofs::LeafLemmas::many_few, crate::proofs::LeafLemmas::many_not))]
-pub fn told_many(
+// Whether a `switch` has too many clauses, and what stands in it is typed.
+fn too_many(
+    walk: &Walk,
+    before: Before,
+    wrong: &[Place],
+    s: &Stmt,
+    count: usize,
+) -> Result<bool, NoMemory>
+    ensures value { IfOk result (λ b. b ≡ (parts_since before wrong.now (stmt_view s.now) walk.now && nat_lt clauses_limit count)) }
+{
+    if count > 1000 {
+        let is_typed = parts_typed(walk, before, wrong, s)?;
+        return Ok(is_typed);
+    }
+    Ok(false)
+}
+
+// Where nothing is told of its nodes.
+fn told_limit(
+    walk: &Walk,
     flaws: &mut Vec<Flaw>,
-    before: usize,
-    at: Place,
+    before: Before,
+    wrong: &[Place],
+    s: &Stmt,
     count: usize,
 ) -> Result<(), NoMemory>
-    ensures told { OnOk result (map flaw_view flaws.new.items ≡ map flaw_view flaws.old.items ++ (if length flaws.old.items == before then (if nat_lt clauses_limit count then flaw at 76 ∷ [] else []) else [])) }
+    ensures told { OnOk result (map flaw_view flaws.new.items ≡ map flaw_view flaws.old.items ++ (if parts_since before wrong.now (stmt_view s.now) walk.now && nat_lt clauses_limit count then flaw s.now.place 76 ∷ [] else [])) }
 {
-    if is_clean(flaws, before) {
-        if count > 1000 {
-            and_flaw(*flaws.allocator(), flaws, at, 76)?;
-            return Ok(());
-        }
+    let is_many = too_many(walk, before, wrong, s, count)?;
+    if is_many {
+        and_flaw(*flaws.allocator(), flaws, s.place, 76)?;
+        return Ok(());
+    }
+    Ok(())
+}
+
+/// A `switch` of too many clauses is told where all its parts are typed (76). `wrong` says where labels
+/// stand that have a fault.
+pub fn told_many(
+    walk: &Walk,
+    flaws: &mut Vec<Flaw>,
+    before: Before,
+    wrong: &[Place],
+    s: &Stmt,
+    count: usize,
+) -> Result<(), NoMemory>
+    ensures told { OnOk result (map flaw_view flaws.new.items ≡ map flaw_view flaws.old.items ++ (if length flaws.old.items == before.flaws then (if parts_since before wrong.now (stmt_view s.now) walk.now && nat_lt clauses_limit count then flaw s.now.place 76 ∷ [] else []) else [])) }
+{
+    if is_clean(flaws, before.flaws) {
+        told_limit(walk, flaws, before, wrong, s, count)?;
         return Ok(());
     }
     Ok(())

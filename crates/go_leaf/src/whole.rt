@@ -2,25 +2,26 @@
 //!
 //! Go, "Terminating statements", "Labeled statements", "Declarations and scope".
 
-ghost use Rattle.std.specs.Prelude.{◌≡◌, ◌++◌, OnOk, map};
+ghost use Rattle.std.specs.Prelude.{◌≡◌, ◌==◌, ◌++◌, [], IfOk, OnOk, map, if◌then◌else◌};
 ghost use Rattle.go_core.specs.CoreView.{stmt_view as core_stmt, stmts_of};
 ghost use Rattle.go_core.specs.Terminating.{ends_terminating};
-ghost use Rattle.go_syntax.specs.View.{block_view};
-ghost use Rattle.go_syntax.specs.declared.tree.Block.{out-Block};
 ghost use Rattle.go_answers.specs.AnswerView.{flaw_view};
 ghost use Rattle.go_callee.specs.Words.{types_of};
-ghost use Rattle.go_leaf.specs.Whole.{missing, whole_told};
+ghost use Rattle.go_statements.specs.Statements.{far_told, flaw_places};
+ghost use Rattle.go_leaf.specs.Whole.{missing, function_told, rest_told};
 
+use crate::leaf::is_clean;
 use gj_base::{NoMemory, Place};
 use go_answers::answer::Flaw;
 use go_answers::rule::and_flaw;
 use go_core::statement::CoreStmt;
-use go_labels::labels_told;
 use go_simple::Around;
 use go_stmt_nodes::ends::is_terminating;
-use go_syntax::tree::Block;
+use go_valued::told::move_flaws;
 use go_walk::Walk;
+use go_walk::parts::Before;
 use go_walk::unused::told_unused;
+use std::alloc::Global;
 
 // Where a function has results, control doesn't come to the end of its body (87).
 #[tactic(auto, using(crate::proofs::WholeLemmas::no_types, crate::proofs::WholeLemmas::no_results, crate::proofs::WholeLemmas::ended, crate::proofs::WholeLemmas::not_ended))]
@@ -59,23 +60,84 @@ pub fn ends_with(walk: &Walk, ss: &[CoreStmt]) -> bool
     is_terminating(walk.env.table(), &ss[n - 1])
 }
 
-/// What is told of a body as a whole: its labels, its unused variables, and where no statement has a
-/// fault, that it doesn't end.
-#[tactic(auto, using(crate::proofs::WholeLemmas::whole_clean, crate::proofs::WholeLemmas::whole_other))]
+// That the function is one too many (79).
+#[tactic(auto, using(crate::proofs::WholeLemmas::far_some, crate::proofs::WholeLemmas::far_none))]
+fn told_far(flaws: &mut Vec<Flaw>, far: Option<Place>) -> Result<(), NoMemory>
+    ensures told { OnOk result (map flaw_view flaws.new.items ≡ map flaw_view flaws.old.items ++ far_told far) }
+{
+    match far {
+        Some(at) => {
+            and_flaw(*flaws.allocator(), flaws, at, 79)?;
+            Ok(())
+        }
+        None => Ok(()),
+    }
+}
+
+// What is told of a function as a whole: its end, or else that it is one too many.
+fn told_function(
+    flaws: &mut Vec<Flaw>,
+    around: &Around,
+    end: Place,
+    ends: bool,
+) -> Result<(), NoMemory>
+    ensures told { OnOk result (map flaw_view flaws.new.items ≡ map flaw_view flaws.old.items ++ function_told around.now.results around.now.too_far end ends) }
+{
+    let before = flaws.len();
+    told_missing(flaws, around, end, ends)?;
+    if is_clean(flaws, before) {
+        told_far(flaws, around.too_far)?;
+        return Ok(());
+    }
+    Ok(())
+}
+
+/// Where faults stand.
+pub fn places_of(alloc: Global, flaws: &[Flaw]) -> Result<Vec<Place>, NoMemory>
+    ensures value { IfOk result (λ ps. ps.items ≡ flaw_places (map flaw_view flaws.now)) }
+{
+    let mut places = Vec::new(alloc);
+    for one in flaws {
+        places.push(one.place)?;
+    }
+    Ok(places)
+}
+
+// What is told of a function as a whole, where no more names were `lost` than before.
+fn told_typed(
+    walk: &Walk,
+    flaws: &mut Vec<Flaw>,
+    around: &Around,
+    end: Place,
+    lost: u64,
+    ends: bool,
+) -> Result<(), NoMemory>
+    ensures told { OnOk result (map flaw_view flaws.new.items ≡ map flaw_view flaws.old.items ++ (if walk.now.lost == lost then function_told around.now.results around.now.too_far end ends else [])) }
+{
+    if walk.lost == lost {
+        told_function(flaws, around, end, ends)?;
+        return Ok(());
+    }
+    Ok(())
+}
+
+/// What is told of a body beside its statements: what was found of its `labels`, its unused variables,
+/// and where all its parts are typed, the function as a whole. `before` is what there was before it.
 pub fn told_whole(
     walk: &Walk,
     flaws: &mut Vec<Flaw>,
     around: &Around,
-    b: &Block,
-    is_clean: bool,
+    end: Place,
+    before: Before,
+    labels: Vec<Flaw>,
     ends: bool,
 ) -> Result<(), NoMemory>
-    ensures told { OnOk result (map flaw_view flaws.new.items ≡ map flaw_view flaws.old.items ++ whole_told around.now.results (block_view b.now) (out-Block b.now).end walk.now is_clean ends) }
+    ensures told { OnOk result (map flaw_view flaws.new.items ≡ map flaw_view flaws.old.items ++ rest_told around.now end before (map flaw_view flaws.old.items) (map flaw_view labels.items) walk.now ends) }
 {
-    labels_told(*flaws.allocator(), flaws, b)?;
+    move_flaws(flaws, labels)?;
     told_unused(walk, flaws)?;
-    if is_clean {
-        told_missing(flaws, around, b.end, ends)?;
+    if is_clean(flaws, before.flaws) {
+        told_typed(walk, flaws, around, end, before.lost, ends)?;
         return Ok(());
     }
     Ok(())

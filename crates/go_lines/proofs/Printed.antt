@@ -18,7 +18,7 @@ use Rattle.js_emit.specs.Lines.{print_line, print_lines}
 use Rattle.js_emit.specs.Prints.{is_text, all_print}
 use Rattle.go_lines.proofs.Forms.{line_expr, is_long, a_print, nothing, both}
 
--- what is known in `main`, which stands there, when these were used
+-- what is known in `main`, which stands there, when these were used; each name is typed
 abbrev pub inner : Place → List Place → Walk
 inner name used = record {
   names = first_names ++ [];
@@ -28,6 +28,7 @@ inner name used = record {
   vars = [];
   declared = [];
   used = used;
+  lost = 0;
 }
 
 abbrev pub line_stmts : List (List ℕ) → List core.Stmt

@@ -1,5 +1,5 @@
 -- A plain package: nothing is told, and its program prints its texts.
-use Rattle.std.proofs.Common.{◌≡◌, ℕ, List, [], ◌∷◌, ◌++◌, true, false, refl, sym, ap, subst, ◌∙◌}
+use Rattle.std.proofs.Common.{◌≡◌, ℕ, List, [], ◌∷◌, ◌++◌, ◌==◌, true, false, refl, sym, ap, subst, ◌∙◌}
 use Rattle.std.specs.Prelude.{Some, None, codes}
 use Rattle.gj_base.specs.declared.place.Place.{Place}
 use Rattle.go_syntax.specs.Tree as t
@@ -8,7 +8,7 @@ use Rattle.go_type.specs.Tree.{no_tys}
 use Rattle.go_typing.specs.Answer.{Flaw}
 use Rattle.go_statements.specs.Walk.{Around, Did, body, unused}
 use Rattle.go_statements.specs.Labels.{labels_in_all, branches_in_all, label_flaws}
-use Rattle.go_statements.specs.Statements.{stmts, where_clean, missing_return}
+use Rattle.go_statements.specs.Statements.{stmts, where_whole, flaw_places}
 use Rattle.go_packages.specs.Checked.{told, or_generated, program_of}
 use Rattle.gj_plain.specs.Plain.{Main, is_bare, texts_of, main_in}
 use Rattle.js_emit.specs.Lines.{print_lines}
@@ -22,13 +22,14 @@ use Rattle.go_lines.proofs.Printed.{inner, line_stmts, bodies, prints}
 abbrev package_of : Place → Place → t.Sig → Place → t.Stmts → Place → List t.Decl
 package_of at name s opens ss closes = t.FuncDecl at (record { place = name; text = codes "main" }) s (t.BlockOf opens ss closes) ∷ []
 
--- what is around the statements of a function without results
-abbrev around : Around
-around = record { results = Some no_tys; named_results = false; targets = []; label = None }
+-- what is around the statements of a function without results that has these labels and branches
+abbrev around : List Name → List (List ℕ) → Around
+around ls bs = record { results = Some no_tys; named_results = false; targets = []; label = None; wrong_labels = flaw_places (label_flaws [] ls bs); too_far = None }
 
--- what is told, by what comes of the statements, and their labels
-abbrev told_with : Place → Did → List Name → List (List ℕ) → List Flaw
-told_with closes d ls bs = or_generated 1 ((d.flaws ++ label_flaws [] ls bs ++ unused d.walk.declared d.walk.used ++ where_clean d.flaws (missing_return (Some no_tys) closes d.core)) ++ [])
+-- what is told, by what comes of the statements, and their labels; of a whole without results nothing is told
+abbrev told_with : Did → List Name → List (List ℕ) → List Flaw
+told_with d ls bs =
+    or_generated 1 ((d.flaws ++ label_flaws [] ls bs ++ unused d.walk.declared d.walk.used ++ where_whole (d.walk.lost == 0) (d.flaws ++ label_flaws [] ls bs ++ unused d.walk.declared d.walk.used) []) ++ [])
 
 record IsRight (ds : List t.Decl) (texts : List (List ℕ)) : Type 0 where
   nothing : told ds ≡ []
@@ -36,24 +37,28 @@ record IsRight (ds : List t.Decl) (texts : List (List ℕ)) : Type 0 where
   alone : only_prints (program_of ds) ≡ true
 
 module _ (at name : Place) (opens closes : Place) (ss : t.Stmts) (texts : List (List ℕ)) (h : texts_of ss ≡ Some texts) where
-  by_did : (s : t.Sig) → told (package_of at name s opens ss closes) ≡ told_with closes (stmts ss around (inner name [])) (labels_in_all ss) (branches_in_all ss)
-      → PrintsLines (program_of (package_of at name s opens ss closes)) texts → only_prints (program_of (package_of at name s opens ss closes)) ≡ true → IsRight (package_of at name s opens ss closes) texts
+  -- what comes of the statements
+  abbrev d : Did
+  d = stmts ss (around (labels_in_all ss) (branches_in_all ss)) (inner name [])
+
+  by_did : (s : t.Sig) → told (package_of at name s opens ss closes) ≡ told_with d (labels_in_all ss) (branches_in_all ss) → PrintsLines (program_of (package_of at name s opens ss closes)) texts
+      → only_prints (program_of (package_of at name s opens ss closes)) ≡ true → IsRight (package_of at name s opens ss closes) texts
   by_did s e l o =
-      let r = prints ss texts around name [] h in
+      let r = prints ss texts (around (labels_in_all ss) (branches_in_all ss)) name [] h in
       record {
         nothing = e
-            ∙ ap (λ (d : Did). told_with closes d (labels_in_all ss) (branches_in_all ss)) r.did
-            ∙ ap (λ (ls : List Name). told_with closes (record { core = line_stmts texts; flaws = []; walk = inner name r.uses }) ls (branches_in_all ss)) r.labels
-            ∙ ap (λ (bs : List (List ℕ)). told_with closes (record { core = line_stmts texts; flaws = []; walk = inner name r.uses }) [] bs) r.branches;
+            ∙ ap (λ (c : Did). told_with c (labels_in_all ss) (branches_in_all ss)) r.did
+            ∙ ap (λ (ls : List Name). told_with (record { core = line_stmts texts; flaws = []; walk = inner name r.uses }) ls (branches_in_all ss)) r.labels
+            ∙ ap (λ (bs : List (List ℕ)). told_with (record { core = line_stmts texts; flaws = []; walk = inner name r.uses }) [] bs) r.branches;
         lines = l;
         alone = o;
       }
 
-  the_body : body (stmts ss around (inner name [])).core ≡ print_lines texts
-  the_body = let r = prints ss texts around name [] h in ap (λ (d : Did). body d.core) r.did ∙ bodies texts
+  the_body : body d.core ≡ print_lines texts
+  the_body = let r = prints ss texts (around (labels_in_all ss) (branches_in_all ss)) name [] h in ap (λ (c : Did). body c.core) r.did ∙ bodies texts
 
-  printing : all_print (body (stmts ss around (inner name [])).core) ≡ true
-  printing = let r = prints ss texts around name [] h in ap all_print the_body ∙ r.alone
+  printing : all_print (body d.core) ≡ true
+  printing = let r = prints ss texts (around (labels_in_all ss) (branches_in_all ss)) name [] h in ap all_print the_body ∙ r.alone
 
   with_none : (p : Place) → IsRight (package_of at name (t.SigOf p t.NoParams t.NoResults) opens ss closes) texts
   with_none p = by_did (t.SigOf p t.NoParams t.NoResults) refl (record { function = _; found = refl; no_results = refl; captures_none = refl; lines = the_body }) printing

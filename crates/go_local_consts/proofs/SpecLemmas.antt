@@ -96,17 +96,18 @@ with_iota e i = record e { iota = i }
 counted_back : (n : ℕ) (a b d e : scopes.Env) → a.iota ≡ None → b ≡ scopes.counting (Some n) a → d ≡ b → e ≡ scopes.counting None d → e ≡ a
 counted_back n a b d e p q r s = s ∙ ap (scopes.counting None) (r ∙ q) ∙ ap (with_iota a) (sym p)
 
-abbrev made : scopes.Env → ℕ → ℕ → List core.Var → List Name → List Place → go.Walk
-made e n l vs ds us = record { names = e.named_types; scopes = visible e; next = n; next_label = l; vars = vs; declared = ds; used = us }
+abbrev made : scopes.Env → ℕ → ℕ → List core.Var → List Name → List Place → ℕ → go.Walk
+made e n l vs ds us k = record { names = e.named_types; scopes = visible e; next = n; next_label = l; vars = vs; declared = ds; used = us; lost = k }
 
-walk_back : (ts : List Ty) (n : ℕ) (a d e : Walk) → walk_of ts d ≡ counting n (walk_of ts a) → env_of e.env ≡ env_of a.env → (e.vars ≡ d.vars) × (e.declared ≡ d.declared) × (e.used ≡ d.used) → (e.next ≡ d.next) × (e.next_label ≡ d.next_label) → walk_of ts e ≡ walk_of ts a
-walk_back ts n a d e p q k m =
+walk_back : (ts : List Ty) (n : ℕ) (a d e : Walk) → walk_of ts d ≡ counting n (walk_of ts a) → env_of e.env ≡ env_of a.env → (e.vars ≡ d.vars) × (e.declared ≡ d.declared) × (e.used ≡ d.used) → e.lost ≡ d.lost → (e.next ≡ d.next) × (e.next_label ≡ d.next_label) → walk_of ts e ≡ walk_of ts a
+walk_back ts n a d e p q k g m =
     let vs : map (var_of ts) e.vars.items ≡ map (var_of ts) a.vars.items = ap (λ (x : Vec Var Global). map (var_of ts) x.items) k.0 ∙ ap (λ (w : go.Walk). w.vars) p in
     let ds : e.declared.items ≡ a.declared.items = ap (λ (x : Vec Name Global). x.items) k.1 ∙ ap (λ (w : go.Walk). w.declared) p in
     let us : e.used.items ≡ a.used.items = ap (λ (x : Vec Place Global). x.items) k.2 ∙ ap (λ (w : go.Walk). w.used) p in
     let nx : e.next ≡ a.next = m.0 ∙ ap (λ (w : go.Walk). w.next) p in
     let nl : e.next_label ≡ a.next_label = m.1 ∙ ap (λ (w : go.Walk). w.next_label) p in
-    λ j. made (q j) (nx j) (nl j) (vs j) (ds j) (us j)
+    let lo : e.lost ≡ a.lost = g ∙ ap (λ (w : go.Walk). w.lost) p in
+    λ j. made (q j) (nx j) (nl j) (vs j) (ds j) (us j) (lo j)
 
 abbrev tree_at : TypeId → TypeTable → Ty
 tree_at i x = tree_of (places x) i
@@ -118,11 +119,11 @@ pub spec_does : (at : Place) (n : ℕ) (names : List Name) (ty : t.MaybeExpr) (y
     → ((ts : List Ty) → walk_of ts b ≡ counting n (walk_of ts a)) → env_of b.env ≡ scopes.counting (Some n) (env_of a.env) → table_of b.env ≡ table_of a.env
     → ((us : List Ty) → spec_view (types_of c.env) s ≡ spec_type (walk_of us b) ty) → SpecBelow (size (table_of c.env)) s → ((us : List Ty) → map flaw_view f1 ≡ map flaw_view f0 ++ spec_type_flaws (walk_of us b) ty) → Stays b c
     → rs ≡ raws_of (names_of c.env) (scopes_of c.env) ys → Stays c d
-    → env_of e.env ≡ scopes.counting None (env_of d.env) → table_of e.env ≡ table_of d.env → (e.vars ≡ d.vars) × (e.declared ≡ d.declared) × (e.used ≡ d.used) → (e.next ≡ d.next) × (e.next_label ≡ d.next_label)
+    → env_of e.env ≡ scopes.counting None (env_of d.env) → table_of e.env ≡ table_of d.env → (e.vars ≡ d.vars) × (e.declared ≡ d.declared) × (e.used ≡ d.used) → e.lost ≡ d.lost → (e.next ≡ d.next) × (e.next_label ≡ d.next_label)
     → Moves (type_uses ty) e f → f.env ≡ e.env → Moves (uses_all (exprs_of ys)) f g → g.env ≡ f.env
     → Does (const_given (names_of g.env) at (spec_view (types_of g.env) s) names rs) g h f1 f2 out out
     → Does (λ w. const_spec at (counting n w) names ty (exprs_of ys) w) a h f0 f2 out out
-spec_does at n names ty ys s rs a b c d e f g h f0 f1 f2 out none bw be bt view below told sc raws sd ee et kept numbers mf fe mg ge k = record {
+spec_does at n names ty ys s rs a b c d e f g h f0 f1 f2 out none bw be bt view below told sc raws sd ee et kept lost numbers mf fe mg ge k = record {
   told = λ ts l.
       k.told ts l ∙ ap (λ (fs : List typing.Flaw). fs ++ (given_at g.env at s names rs (walk_of ts g)).flaws) (told ts ∙ ap (λ (w : go.Walk). map flaw_view f0 ++ spec_type_flaws w ty) (bw ts))
       ∙ append_assoc (map flaw_view f0) (spec_type_flaws (counting n (walk_of ts a)) ty) (given_at g.env at s names rs (walk_of ts g)).flaws
@@ -173,7 +174,7 @@ spec_does at n names ty ys s rs a b c d e f g h f0 f1 f2 out none bw be bt view 
     walk : (ts : List Ty) → Keeps (table_of h.env) ts → walk_of ts g ≡ uses_all (exprs_of ys) (type_uses ty (walk_of ts a))
     walk ts l =
         mg.walk ts (to_ts ts l) ∙ ap (uses_all (exprs_of ys)) (mf.walk ts (to_f ts l))
-        ∙ ap (λ (w : go.Walk). uses_all (exprs_of ys) (type_uses ty w)) (walk_back ts n a d e (sd.walk ts ∙ sc.walk ts ∙ bw ts) env_e kept numbers)
+        ∙ ap (λ (w : go.Walk). uses_all (exprs_of ys) (type_uses ty w)) (walk_back ts n a d e (sd.walk ts ∙ sc.walk ts ∙ bw ts) env_e kept lost numbers)
 
     is : (ts : List Ty) → Keeps (table_of h.env) ts
         → given_at g.env at s names rs (walk_of ts g)

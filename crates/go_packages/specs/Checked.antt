@@ -1,6 +1,6 @@
 -- The whole of a package: what is told of it, the least of that, and the program that it is where nothing is told.
 -- Go specification (as of Go 1.17), "Packages", "Program execution".
-use Rattle.std.specs.Prelude.{ℕ, suc, ◌+◌, ◌==◌, nat_lt, List, [], ◌∷◌, ◌++◌, Bool, false, ◌||◌, ◌&&◌, if◌then◌else◌, Option, Some, None, codes}
+use Rattle.std.specs.Prelude.{ℕ, zero, suc, ◌+◌, ◌==◌, nat_lt, List, [], ◌∷◌, ◌++◌, Bool, false, ◌||◌, ◌&&◌, if◌then◌else◌, Option, Some, None, codes}
 use Rattle.gj_base.specs.declared.place.Place.{Place}
 use Rattle.go_syntax.specs.Tree as t
 use Rattle.go_type.specs.Tree as ty
@@ -22,8 +22,21 @@ known_in ds = known (items_of ds)
 abbrev pub between_of : Known → Between
 between_of k = record { names = k.names; next = 0 }
 
+-- where the function of this number stands, one that may have a core
+abbrev pub function_at : ℕ → List t.Decl → Option Place
+function_at n [] = None
+function_at zero (t.FuncDecl at m s b ∷ ds) = Some at
+function_at (suc n) (t.FuncDecl at m s b ∷ ds) = function_at n ds
+function_at zero (t.MethodDecl at p rs m s b ∷ ds) = None
+function_at (suc n) (t.MethodDecl at p rs m s b ∷ ds) = function_at n ds
+function_at n (d ∷ ds) = function_at n ds
+
+-- own: there are at most 65535 functions (79)
+abbrev pub first_too_far : List t.Decl → Option Place
+first_too_far ds = function_at 65535 ds
+
 abbrev pub functions_in : Known → List t.Decl → Functions
-functions_in k ds = functions_from (outside k) ds (between_of k)
+functions_in k ds = functions_from (first_too_far ds) (outside k) ds (between_of k)
 
 -- own: the start of the package's first file
 abbrev pub first_byte : Place
@@ -43,7 +56,7 @@ or_generated n (f ∷ fs) = f ∷ fs
 abbrev pub told : List t.Decl → List Flaw
 told ds =
     let k = known_in ds in
-    or_generated (count_functions ds) (names_told [] (items_of ds) ++ cycle_flaws k.binds (items_of ds) ++ decls_told 0 (outside k) ds ++ (functions_in k ds).flaws)
+    or_generated (count_functions ds) (names_told [] (items_of ds) ++ cycle_flaws k.binds (items_of ds) ++ decls_told (outside k) ds ++ (functions_in k ds).flaws)
 
 -- ---- the least, by file, offset and code
 

@@ -49,7 +49,7 @@ named_type k = ty.named (length first_names + k)
 -- ---- typing by what is known
 
 abbrev pub outside : Known → Walk
-outside k = record { names = k.names; scopes = universe None ∷ k.binds ∷ []; next = 0; next_label = 0; vars = []; declared = []; used = [] }
+outside k = record { names = k.names; scopes = universe None ∷ k.binds ∷ []; next = 0; next_label = 0; vars = []; declared = []; used = []; lost = 0 }
 
 abbrev pub type_found : Known → t.Expr → Option Ty
 type_found k e = type_of (type_in (outside k) e).answer

@@ -5,8 +5,8 @@ use Rattle.gj_base.specs.declared.kind.Op.TheVariants as operator
 use Rattle.go_syntax.specs.Tree as t
 use Rattle.go_typing.specs.RowWords.{at, name, num, str, two, call, exprs, fault, named_fault}
 use Rattle.go_statements.specs.RowWords.{block, id, spec}
-use Rattle.go_packages.specs.RowWords.{type_alone, with_type, params}
-use Rattle.go_packages.specs.Checked.{fault_of}
+use Rattle.go_packages.specs.RowWords.{type_alone, with_type, params, bodies_told}
+use Rattle.go_packages.specs.Checked.{function_at, fault_of}
 
 pub record RowsTold : Type 0 where
   -- order and scope
@@ -111,12 +111,37 @@ pub record RowsTold : Type 0 where
   -- bodies
   -- `func f() int { }; func main() { f() }`
   pub missing_return : fault_of ((t.FuncDecl (at 14) (id (codes "f") 19) (t.SigOf (at 20) (params ([])) (t.OneResult (name (codes "int") 23))) (block 27 ([]) 29)) ∷ (t.FuncDecl (at 31) (id (codes "main") 36) (t.SigOf (at 40) (params ([])) t.NoResults) (block 43 ((t.ExprStmt (at 45) (exprs ((call (name (codes "f") 45) ([])) ∷ []))) ∷ []) 49)) ∷ []) ≡ Some (fault 29 87)
+  -- `func f() int { x := c; println(x) }; const c int8 = 300; func main() { }`
+  pub missing_return_where_a_constant_is_faulty : fault_of ((t.FuncDecl (at 14) (id (codes "f") 19) (t.SigOf (at 20) (params ([])) (t.OneResult (name (codes "int") 23))) (block 27 ((t.DefineStmt (at 29) (exprs ((name (codes "x") 29) ∷ [])) (exprs ((name (codes "c") 34) ∷ []))) ∷ (t.ExprStmt (at 37) (exprs ((call (name (codes "println") 37) ((name (codes "x") 45) ∷ [])) ∷ []))) ∷ []) 48)) ∷ (t.ConstDecl (at 50) (spec ((id (codes "c") 56) ∷ []) (t.AnExpr (name (codes "int8") 58)) ((num (codes "300") 65) ∷ []) t.NoValues)) ∷ (t.FuncDecl (at 69) (id (codes "main") 74) (t.SigOf (at 78) (params ([])) t.NoResults) (block 81 ([]) 83)) ∷ []) ≡ Some (fault 65 32)
+  -- `func f() int { x := c; println(x) }; const c int8 = 100; func main() { }`
+  pub missing_return_where_a_constant_is_not : fault_of ((t.FuncDecl (at 14) (id (codes "f") 19) (t.SigOf (at 20) (params ([])) (t.OneResult (name (codes "int") 23))) (block 27 ((t.DefineStmt (at 29) (exprs ((name (codes "x") 29) ∷ [])) (exprs ((name (codes "c") 34) ∷ []))) ∷ (t.ExprStmt (at 37) (exprs ((call (name (codes "println") 37) ((name (codes "x") 45) ∷ [])) ∷ []))) ∷ []) 48)) ∷ (t.ConstDecl (at 50) (spec ((id (codes "c") 56) ∷ []) (t.AnExpr (name (codes "int8") 58)) ((num (codes "100") 65) ∷ []) t.NoValues)) ∷ (t.FuncDecl (at 69) (id (codes "main") 74) (t.SigOf (at 78) (params ([])) t.NoResults) (block 81 ([]) 83)) ∷ []) ≡ Some (fault 48 87)
+  -- `func f() int { c = 4 }; const c int8 = 300; func main() { }`
+  pub missing_return_where_a_faulty_constant_is_assigned : fault_of ((t.FuncDecl (at 14) (id (codes "f") 19) (t.SigOf (at 20) (params ([])) (t.OneResult (name (codes "int") 23))) (block 27 ((t.AssignStmt (at 29) (exprs ((name (codes "c") 29) ∷ [])) None (exprs ((num (codes "4") 33) ∷ []))) ∷ []) 35)) ∷ (t.ConstDecl (at 37) (spec ((id (codes "c") 43) ∷ []) (t.AnExpr (name (codes "int8") 45)) ((num (codes "300") 52) ∷ []) t.NoValues)) ∷ (t.FuncDecl (at 56) (id (codes "main") 61) (t.SigOf (at 65) (params ([])) t.NoResults) (block 68 ([]) 70)) ∷ []) ≡ Some (fault 52 32)
   -- `func main() { x := 4 }; func f() int { }`
   pub least_of_two_bodies : fault_of ((t.FuncDecl (at 14) (id (codes "main") 19) (t.SigOf (at 23) (params ([])) t.NoResults) (block 26 ((t.DefineStmt (at 28) (exprs ((name (codes "x") 28) ∷ [])) (exprs ((num (codes "4") 33) ∷ []))) ∷ []) 35)) ∷ (t.FuncDecl (at 37) (id (codes "f") 42) (t.SigOf (at 43) (params ([])) (t.OneResult (name (codes "int") 46))) (block 50 ([]) 52)) ∷ []) ≡ Some (named_fault 28 80 (codes "x"))
   -- `type T int; func f(x T) T { return x + 1 }; func main() { println(f(4)) }`
   pub named_type_in_functions : fault_of ((t.TypeDecl (at 14) (t.MoreTypes (id (codes "T") 19) false (name (codes "int") 21) t.NoTypes)) ∷ (t.FuncDecl (at 25) (id (codes "f") 30) (t.SigOf (at 31) (params (with_type (id (codes "x") 32) false (name (codes "T") 34) ∷ [])) (t.OneResult (name (codes "T") 37))) (block 39 ((t.ReturnStmt (at 41) (exprs ((two (name (codes "x") 48) operator.Add (num (codes "1") 52)) ∷ []))) ∷ []) 54)) ∷ (t.FuncDecl (at 56) (id (codes "main") 61) (t.SigOf (at 65) (params ([])) t.NoResults) (block 68 ((t.ExprStmt (at 70) (exprs ((call (name (codes "println") 70) ((call (name (codes "f") 78) ((num (codes "4") 80) ∷ [])) ∷ [])) ∷ []))) ∷ []) 84)) ∷ []) ≡ None
   -- `type T int; func f(x T) { println(x) }; func main() { var y int = 4; f(y) }`
   pub other_named_type : fault_of ((t.TypeDecl (at 14) (t.MoreTypes (id (codes "T") 19) false (name (codes "int") 21) t.NoTypes)) ∷ (t.FuncDecl (at 25) (id (codes "f") 30) (t.SigOf (at 31) (params (with_type (id (codes "x") 32) false (name (codes "T") 34) ∷ [])) t.NoResults) (block 37 ((t.ExprStmt (at 39) (exprs ((call (name (codes "println") 39) ((name (codes "x") 47) ∷ [])) ∷ []))) ∷ []) 50)) ∷ (t.FuncDecl (at 52) (id (codes "main") 57) (t.SigOf (at 61) (params ([])) t.NoResults) (block 64 ((t.DeclStmt (at 66) (t.VarDecl (at 66) (spec ((id (codes "y") 70) ∷ []) (t.AnExpr (name (codes "int") 72)) ((num (codes "4") 78) ∷ []) t.NoValues))) ∷ (t.ExprStmt (at 81) (exprs ((call (name (codes "f") 81) ((name (codes "y") 83) ∷ [])) ∷ []))) ∷ []) 86)) ∷ []) ≡ Some (fault 83 61)
+  -- one function too many (79): what is told of bodies, the first function being the one too many
+  -- `func f() { }; func main() { }`
+  pub function_too_many : bodies_told 14 ((t.FuncDecl (at 14) (id (codes "f") 19) (t.SigOf (at 20) (params ([])) t.NoResults) (block 23 ([]) 25)) ∷ (t.FuncDecl (at 27) (id (codes "main") 32) (t.SigOf (at 36) (params ([])) t.NoResults) (block 39 ([]) 41)) ∷ []) ≡ fault 14 79 ∷ []
+  -- the same, `main` being the one too many
+  pub later_function_too_many : bodies_told 27 ((t.FuncDecl (at 14) (id (codes "f") 19) (t.SigOf (at 20) (params ([])) t.NoResults) (block 23 ([]) 25)) ∷ (t.FuncDecl (at 27) (id (codes "main") 32) (t.SigOf (at 36) (params ([])) t.NoResults) (block 39 ([]) 41)) ∷ []) ≡ fault 27 79 ∷ []
+  -- `func _() { }; func main() { }`
+  pub blank_function_too_many : bodies_told 14 ((t.FuncDecl (at 14) (id (codes "_") 19) (t.SigOf (at 20) (params ([])) t.NoResults) (block 23 ([]) 25)) ∷ (t.FuncDecl (at 27) (id (codes "main") 32) (t.SigOf (at 36) (params ([])) t.NoResults) (block 39 ([]) 41)) ∷ []) ≡ fault 14 79 ∷ []
+  -- `func f() int { }; func main() { }`
+  pub function_too_many_without_a_return : bodies_told 14 ((t.FuncDecl (at 14) (id (codes "f") 19) (t.SigOf (at 20) (params ([])) (t.OneResult (name (codes "int") 23))) (block 27 ([]) 29)) ∷ (t.FuncDecl (at 31) (id (codes "main") 36) (t.SigOf (at 40) (params ([])) t.NoResults) (block 43 ([]) 45)) ∷ []) ≡ fault 29 87 ∷ []
+  -- `func f() { x := 4 }; func main() { }`
+  pub function_too_many_with_an_unused_name : bodies_told 14 ((t.FuncDecl (at 14) (id (codes "f") 19) (t.SigOf (at 20) (params ([])) t.NoResults) (block 23 ((t.DefineStmt (at 25) (exprs ((name (codes "x") 25) ∷ [])) (exprs ((num (codes "4") 30) ∷ []))) ∷ []) 32)) ∷ (t.FuncDecl (at 34) (id (codes "main") 39) (t.SigOf (at 43) (params ([])) t.NoResults) (block 46 ([]) 48)) ∷ []) ≡ named_fault 25 80 (codes "x") ∷ []
+  -- `func f() { println(c) }; const c int8 = 300; func main() { }`
+  pub function_too_many_of_a_faulty_constant : bodies_told 14 ((t.FuncDecl (at 14) (id (codes "f") 19) (t.SigOf (at 20) (params ([])) t.NoResults) (block 23 ((t.ExprStmt (at 25) (exprs ((call (name (codes "println") 25) ((name (codes "c") 33) ∷ [])) ∷ []))) ∷ []) 36)) ∷ (t.ConstDecl (at 38) (spec ((id (codes "c") 44) ∷ []) (t.AnExpr (name (codes "int8") 46)) ((num (codes "300") 53) ∷ []) t.NoValues)) ∷ (t.FuncDecl (at 57) (id (codes "main") 62) (t.SigOf (at 66) (params ([])) t.NoResults) (block 69 ([]) 71)) ∷ []) ≡ []
+  -- `func main() { }; func main() { }`, the second being the one too many
+  pub second_main_too_many : bodies_told 30 ((t.FuncDecl (at 14) (id (codes "main") 19) (t.SigOf (at 23) (params ([])) t.NoResults) (block 26 ([]) 28)) ∷ (t.FuncDecl (at 30) (id (codes "main") 35) (t.SigOf (at 39) (params ([])) t.NoResults) (block 42 ([]) 44)) ∷ []) ≡ []
+  -- `func main(x int) { }`
+  pub main_with_a_parameter_too_many : bodies_told 14 ((t.FuncDecl (at 14) (id (codes "main") 19) (t.SigOf (at 23) (params (with_type (id (codes "x") 24) false (name (codes "int") 26) ∷ [])) t.NoResults) (block 31 ([]) 33)) ∷ []) ≡ []
+  -- which function has a number: `func f() { }; const a = 4; func main() { }`
+  pub numbered_function : function_at 1 ((t.FuncDecl (at 14) (id (codes "f") 19) (t.SigOf (at 20) (params ([])) t.NoResults) (block 23 ([]) 25)) ∷ (t.ConstDecl (at 27) (spec ((id (codes "a") 33) ∷ []) t.NoExpr ((num (codes "4") 37) ∷ []) t.NoValues)) ∷ (t.FuncDecl (at 39) (id (codes "main") 44) (t.SigOf (at 48) (params ([])) t.NoResults) (block 51 ([]) 53)) ∷ []) ≡ Some (at 39)
   -- `_` is declared nowhere: as a type it is 51, as a value 52, and no label
   -- `type _ _; func main() { }`
   pub blank_type : fault_of ((t.TypeDecl (at 14) (t.MoreTypes (id (codes "_") 19) false (name (codes "_") 21) t.NoTypes)) ∷ (t.FuncDecl (at 24) (id (codes "main") 29) (t.SigOf (at 33) (params ([])) t.NoResults) (block 36 ([]) 38)) ∷ []) ≡ Some (fault 21 51)

@@ -136,7 +136,7 @@ names_flaws w (p ∷ ps) v = name_flaws p.name v ++ names_flaws w ps (bound p.na
 
 -- a function's own scope, where none of its names is declared yet
 abbrev pub inside : Walk → Walk
-inside w = record w { scopes = w.scopes ++ [] ∷ []; vars = []; next_label = 0; declared = []; used = [] }
+inside w = record w { scopes = w.scopes ++ [] ∷ []; vars = []; next_label = 0; declared = []; used = []; lost = 0 }
 
 -- what is told of a signature
 abbrev pub sig_flaws : Walk → t.Sig → List Flaw

@@ -1,6 +1,6 @@
 -- Go specification (as of Go 1.17), "Constant declarations", "Type declarations", "Uniqueness of identifiers", "Program execution",
 -- "Package initialization": what is told of the declarations of a package, bodies of functions aside.
-use Rattle.std.specs.Prelude.{ℕ, suc, ◌==◌, List, [], ◌∷◌, ◌++◌, Bool, true, false, if◌then◌else◌, Option, Some, None, bytes_eq, codes}
+use Rattle.std.specs.Prelude.{ℕ, suc, List, [], ◌∷◌, ◌++◌, Bool, true, false, if◌then◌else◌, Option, Some, None, bytes_eq, codes}
 use Rattle.gj_base.specs.declared.place.Place.{Place}
 use Rattle.go_syntax.specs.Tree as t
 use Rattle.go_syntax.specs.declared.tree.Name.{Name}
@@ -54,23 +54,19 @@ abbrev pub main_told : Name → Option SigTypes → List Flaw
 main_told n None = []
 main_told n (Some s) = if is_main n then (if takes_something s then flaw n.place 99 ∷ [] else []) else []
 
--- own: there are at most so many functions (79)
-abbrev pub number_told : Place → ℕ → List Flaw
-number_told at id = if id == 65535 then flaw at 79 ∷ [] else []
-
 -- a function `init` is not built yet
 abbrev pub function_told : Place → Name → t.Sig → Walk → List Flaw
 function_told at n s w = if is_init n then flaw at 0 ∷ [] else sig_flaws w s ++ main_told n (sig_types w s)
 
 -- ---- one after the other; package variables and methods are not built yet
 
-abbrev pub decls_told : ℕ → Walk → List t.Decl → List Flaw
-decls_told id w [] = []
-decls_told id w (t.ConstDecl at vs ∷ ds) = specs_told at 0 w t.NoExpr t.NoExprs vs ++ decls_told id w ds
-decls_told id w (t.TypeDecl at ts ∷ ds) = types_told w ts ++ decls_told id w ds
-decls_told id w (t.VarDecl at vs ∷ ds) = flaw at 0 ∷ decls_told id w ds
-decls_told id w (t.FuncDecl at n s b ∷ ds) = function_told at n s w ++ number_told at id ++ decls_told (suc id) w ds
-decls_told id w (t.MethodDecl at p rs n s b ∷ ds) = flaw at 0 ∷ number_told at id ++ decls_told (suc id) w ds
+abbrev pub decls_told : Walk → List t.Decl → List Flaw
+decls_told w [] = []
+decls_told w (t.ConstDecl at vs ∷ ds) = specs_told at 0 w t.NoExpr t.NoExprs vs ++ decls_told w ds
+decls_told w (t.TypeDecl at ts ∷ ds) = types_told w ts ++ decls_told w ds
+decls_told w (t.VarDecl at vs ∷ ds) = flaw at 0 ∷ decls_told w ds
+decls_told w (t.FuncDecl at n s b ∷ ds) = function_told at n s w ++ decls_told w ds
+decls_told w (t.MethodDecl at p rs n s b ∷ ds) = flaw at 0 ∷ decls_told w ds
 
 -- ---- names
 

@@ -181,7 +181,7 @@ module _ (p : CoreProgram) (a : node.Around) (vs : List Var) (b : Around) (w : W
   pub expression_done : (at : Place) (xs : t.Exprs) → AllHaveOperators xs → (expression at xs w).flaws ≡ [] → Done p a vs w (expression at xs w)
   expression_done at (t.MoreExprs e t.NoExprs) o h =
       done_also p a vs w (flaws_in w e) (performed (place_of e) (called_in w e) (answer_in w e) (uses e w))
-      (performed_done e (place_of e) (uses e w) (like_uses e w) (here p (at_vars a vs) w st.ready e o.0) (called_in w e) refl (answer_in w e) refl (no_second (flaws_in w e) _ h))
+      (performed_done e (place_of e) (uses e w) (like_uses e w st.ready.all_typed) (here p (at_vars a vs) w st.ready e o.0) (called_in w e) refl (answer_in w e) refl (no_second (flaws_in w e) _ h))
   expression_done at t.NoExprs o h = absurd (never_told p (at_vars a vs) w st.ready t.NoExprs (flaw at 84) h)
   expression_done at (t.MoreExprs e (t.MoreExprs f fs)) o h = absurd (never_told p (at_vars a vs) w st.ready (t.MoreExprs e (t.MoreExprs f fs)) (flaw at 84) h)
 
@@ -216,7 +216,7 @@ module _ (p : CoreProgram) (a : node.Around) (vs : List Var) (b : Around) (w : W
       by_types : (c : Bool) → same_types a.results us ≡ c → (if c then did (core.return_ (core.expr (core_of (answer_in w y)) core.no_exprs) ∷ []) (uses y w) else faulty (flaw (place_of y) 61 ∷ []) (uses y w)).flaws ≡ []
           → Done p a vs w (if c then did (core.return_ (core.expr (core_of (answer_in w y)) core.no_exprs) ∷ []) (uses y w) else faulty (flaw (place_of y) 61 ∷ []) (uses y w))
       by_types true e g =
-          return_done (core.expr (core_of (answer_in w y)) core.no_exprs) (uses y w) (like_uses y w) (m.is_sound, tt)
+          return_done (core.expr (core_of (answer_in w y)) core.no_exprs) (uses y w) (like_uses y w st.ready.all_typed) (m.is_sound, tt)
           (append-nil (types_of p.names (core_of (answer_in w y))) ∙ m.give ∙ ap listed_types (sym (types_one a.results us e)))
       by_types false e g = cc
 
@@ -234,7 +234,7 @@ module _ (p : CoreProgram) (a : node.Around) (vs : List Var) (b : Around) (w : W
           → Done p a vs w (if c then record { core = core.return_ (returned_each w a.results ys).1 ∷ []; flaws = (returned_each w a.results ys).0.flaws; walk = uses_all ys w } else wrong_count at w ys)
       by_number true n g =
           let r = each_returned a.results ys n results_scalar results_set q g in
-          let d = return_done (returned_each w a.results ys).1 (uses_all ys w) (like_uses_all ys w) r.0 r.1 in
+          let d = return_done (returned_each w a.results ys).1 (uses_all ys w) (like_uses_all ys w st.ready.all_typed) r.0 r.1 in
           record { is_sound = d.is_sound; extends = d.extends; ready = d.ready; before = d.before; adds = d.adds }
       by_number false n g = absurd (never_told p (at_vars a vs) w st.ready ys (flaw at 88) g)
   by_returned at ys q (Some us) e h = call_returned at (first_right ys (t.NameExpr at [])) us (right_several p (at_vars a vs) w st.ready ys (t.NameExpr at []) us q e) h

@@ -114,7 +114,7 @@ const_spec_done p a at n ns u ys o q vs b w s h =
     ready = ready_counting p (at_vars a vs) n w s.ready
 
     same : Like w (uses_all ys (type_uses u w))
-    same = like_parts ys u w
+    same = like_parts ys u w s.ready.all_typed
 
     by_count : (c : Bool) → (const_spec_if at (counting n w) ns u ys w c).flaws ≡ [] → Done p a vs w (const_spec_if at (counting n w) ns u ys w c)
     by_count true g =
@@ -198,7 +198,7 @@ type_adds : (p : CoreProgram) (a : node.Around) (vs : List Var) (w : Walk) (n : 
 type_adds p a vs w n alias None i c = let f = c.found in let e : None ≡ Some c.type_ = f in cc
 type_adds p a vs w n true (Some u) i c = adds_named p w n (type_name u)
 type_adds p a vs w n false (Some u) i c =
-    adds_then p w (with_type w (new_named n.text w u)) (declare_type n false (Some u) w) (adds_type p w (with_type w (new_named n.text w u)) (new_named n.text w u) refl refl (underlying w.names u, refl, stands))
+    adds_then p w (with_type w (new_named n.text w u)) (declare_type n false (Some u) w) (adds_type p w (with_type w (new_named n.text w u)) (new_named n.text w u) refl refl refl (underlying w.names u, refl, stands))
     (adds_named p (with_type w (new_named n.text w u)) n (type_name (ty.named (length w.names))))
   where
     e : u ≡ c.type_
@@ -215,7 +215,7 @@ type_spec_done p a n alias e o vs b w s (Some at) m h = cc
 type_spec_done p a n alias e o vs b w s None m h = by_test (is_bare n.text e) m h
   where
     scoped : Scoped p a vs (uses e w)
-    scoped = record { ready = ready_like p (at_vars a vs) w (uses e w) (like_uses e w) s.ready; before = s.before }
+    scoped = record { ready = ready_like p (at_vars a vs) w (uses e w) (like_uses e w s.ready.all_typed) s.ready; before = s.before }
 
     typed : (type_in w e).flaws ≡ [] → IsAType p (at_vars a vs) (uses e w) scoped.ready (type_of (type_in w e).answer)
     typed g = let c = type_there p (at_vars a vs) w s.ready e o g in record { type_ = c.type_; found = c.found; scalar = c.scalar; set = c.set }
@@ -225,7 +225,7 @@ type_spec_done p a n alias e o vs b w s None m h = by_test (is_bare n.text e) m 
         → Done p a vs w (if c then faulty (flaw n.place 74 ∷ []) (uses e (with_name n unknown w)) else faulty (type_in w e).flaws (declare_type n alias (type_of (type_in w e).answer) (uses e w)))
     by_test true k g = cc
     by_test false k g =
-        done_like p a vs w (uses e w) (faulty (type_in w e).flaws (declare_type n alias (type_of (type_in w e).answer) (uses e w))) (like_uses e w)
+        done_like p a vs w (uses e w) (faulty (type_in w e).flaws (declare_type n alias (type_of (type_in w e).answer) (uses e w))) (like_uses e w s.ready.all_typed)
         (done_quiet p a vs (uses e w) (faulty (type_in w e).flaws (declare_type n alias (type_of (type_in w e).answer) (uses e w)))
         (record { nothing = refl; scoped = type_scoped p a vs (uses e w) n alias (type_of (type_in w e).answer) scoped (typed g) k; adds = type_adds p a vs (uses e w) n alias (type_of (type_in w e).answer) scoped (typed g) }))
 

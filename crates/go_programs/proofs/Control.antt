@@ -21,6 +21,7 @@ use Rattle.go_statements.specs.Expressions.{flaws_in, condition, core_of}
 use Rattle.go_statements.specs.Statements.{if_did, unlabeled, with_target, next_label, condition_core, condition_told, condition_uses, for_did, case_answer, case_constant, and_constant, repeated_flaws, repeated, case_tests, Clauses, default_from, default_flaws, Tests, one_clause}
 use Rattle.go_sound.specs.Added.{TypeIsSet}
 use Rattle.go_sound.specs.GoesOn.{GoesOn}
+use Rattle.go_sound.specs.Lost.{NothingUnknown}
 use Rattle.go_sound.specs.SoundTyped.{HasOperators, AllHaveOperators, BoundHasOperators, IsScalarType}
 use Rattle.go_sound.specs.SoundValues.{IsReady}
 use Rattle.go_sound.proofs.SoundWords.{scalar_good}
@@ -92,7 +93,7 @@ if_says p a b x init then_ else_ o di dt de gi gt ge kept vs w s k h =
     state = state_on p a vs b w d s (gi w) first
 
     inside : State p a us b (uses x d.walk)
-    inside = state_like p a us b d.walk (uses x d.walk) (like_uses x d.walk) state
+    inside = state_like p a us b d.walk (uses x d.walk) (like_uses x d.walk state.ready.all_typed) state
 
     c : SoundExpr p (at_vars a us) (core_of (condition d.walk x).answer) × GivesSome p (core_of (condition d.walk x).answer) IsBool
     c = condition_here p (at_vars a us) d.walk state.ready x o (two_of_four d.flaws (condition d.walk x).flaws e.flaws f.flaws h)
@@ -111,7 +112,7 @@ if_says p a b x init then_ else_ o di dt de gi gt ge kept vs w s k h =
 
     added : Adds p w f.walk
     added =
-        adds_then p w d.walk f.walk first.adds (adds_then p d.walk (uses x d.walk) f.walk (adds_like p d.walk (uses x d.walk) (like_uses x d.walk)) (adds_then p (uses x d.walk) e.walk f.walk second.adds third.adds))
+        adds_then p w d.walk f.walk first.adds (adds_then p d.walk (uses x d.walk) f.walk (adds_like p d.walk (uses x d.walk) (like_uses x d.walk state.ready.all_typed)) (adds_then p (uses x d.walk) e.walk f.walk second.adds third.adds))
 
 -- ---- labels
 
@@ -186,9 +187,9 @@ label_state p a vs b w s = record {
 new_label : (p : CoreProgram) (a : node.Around) (b : Around) (w : Walk) → IsAround p a b w → (label : ℕ) → w.next_label ≤ label → Contains a.breaks label → ⊥
 new_label p a b w c label l d = let k = c.labels_before label d in omega arith
 
-like_condition : (x : t.MaybeExpr) (w : Walk) → Like w (condition_uses x w)
-like_condition t.NoExpr w = like_same w
-like_condition (t.AnExpr e) w = like_uses e w
+like_condition : (x : t.MaybeExpr) (w : Walk) → NothingUnknown w.scopes → Like w (condition_uses x w)
+like_condition t.NoExpr w h = like_same w
+like_condition (t.AnExpr e) w h = like_uses e w h
 
 condition_sound : (p : CoreProgram) (a : node.Around) (w : Walk) (r : IsReady p a w) (x : t.MaybeExpr) → BoundHasOperators x → condition_told w x ≡ [] → SoundCondition p a (condition_core w x)
 condition_sound p a w r t.NoExpr o h = tt
@@ -237,7 +238,7 @@ for_says p a b x init post inside o di dp de gi gp ge kept vs w s k h =
     state = state_on p a vs b w d s (gi w) first
 
     at_post : State p a us b v
-    at_post = state_like p a us b d.walk v (like_condition x d.walk) state
+    at_post = state_like p a us b d.walk v (like_condition x d.walk state.ready.all_typed) state
 
     second : Done p a us v q
     second = dp us v (relabeled p a us b None v at_post) (holds_part p a.declarable w v q.walk e.walk to_post after_label k) (three_of_four d.flaws (condition_told d.walk x) q.flaws e.flaws h)
@@ -256,8 +257,8 @@ for_says p a b x init post inside o di dp de gi gp ge kept vs w s k h =
     added : Adds p w e.walk
     added =
         adds_then p w d.walk e.walk first.adds
-        (adds_then p d.walk v e.walk (adds_like p d.walk v (like_condition x d.walk))
-        (adds_then p v q.walk e.walk second.adds (adds_then p q.walk (next_label q.walk) e.walk (adds_none p q.walk (next_label q.walk) refl refl) third.adds)))
+        (adds_then p d.walk v e.walk (adds_like p d.walk v (like_condition x d.walk state.ready.all_typed))
+        (adds_then p v q.walk e.walk second.adds (adds_then p q.walk (next_label q.walk) e.walk (adds_none p q.walk (next_label q.walk) refl refl refl) third.adds)))
 
 -- ---- `switch`
 
@@ -348,7 +349,7 @@ pub switch_says : (p : CoreProgram) (a : node.Around) (b : Around) (ty : Ty) (c 
 switch_says p a b ty c fs x init clauses di gi gc say vs w s scalar set value k h = record {
   adds =
       adds_then p w d.walk r.walk first.adds
-      (adds_then p d.walk u r.walk (adds_like p d.walk u like) (adds_then p u v r.walk (adds_var p u v y refl refl scalar) said.adds));
+      (adds_then p d.walk u r.walk (adds_like p d.walk u like) (adds_then p u v r.walk (adds_var p u v y refl refl refl scalar) said.adds));
   is_sound = sound_append p a d.core (core.declare y ∷ core.store (core.to_place ty (core.local_ u.next) ∷ []) (core.expr c core.no_exprs) ∷ core.switch_on u.next_label r.tests r.clauses r.default_ ∷ []) vs first.is_sound
       ((held, scalar_good p ty scalar), (((given.0, tt), stored), ((new_label p a b u at_u.around u.next_label (omega arith), said.tests r.clauses clause_of, said.clauses, said.default_in r.clauses clause_of), tt)));
   extends = subst (Extends w.next vs) (sym (after_append d.core _ vs)) (extends_then w.next u.next vs us ts (let e = like.next in let f = next_on w d.walk (gi w) in omega arith) first.extends (extends_var y us));
@@ -359,9 +360,6 @@ switch_says p a b ty c fs x init clauses di gi gc say vs w s scalar set value k 
 
     u : Walk
     u = condition_uses x d.walk
-
-    like : Like d.walk u
-    like = like_condition x d.walk
 
     y : Var
     y = var_of u.next ty
@@ -392,6 +390,9 @@ switch_says p a b ty c fs x init clauses di gi gc say vs w s scalar set value k 
 
     state : State p a us b d.walk
     state = state_on p a vs b w d s (gi w) first
+
+    like : Like d.walk u
+    like = like_condition x d.walk state.ready.all_typed
 
     at_u : State p a us b u
     at_u = state_like p a us b d.walk u like state

@@ -17,17 +17,17 @@ use Rattle.go_typing.specs.Scopes.{last_changed, with_bind}
 use Rattle.go_typing.specs.Typing.{place_of}
 use Rattle.go_statements.specs.Walk.{Walk, Around, Did, body, bind_of, is_there, with_name, fresh, var_of, noted, with_variable, uses_all}
 use Rattle.go_statements.specs.Expressions.{Valued, answer_in, value_alone, core_of, type_of, several_types}
-use Rattle.go_statements.specs.Assign.{left_of, left_flaws, target_of, takes, value_for, same_number, count_of, several_right, first_right, Fresh, new_name, old_name, blank_name, no_name, fresh_of, Defined, with_new, new_stmts, new_target, define_new, define_one, define_each, define_flaws, defined_did, define_type_new, define_type, define_types, define_miscounted, define_by, define, left_uses, sides_typed, sides_told, old_flaws, names_flaws, first_place, undeclared, where_typed, all_typed, all_in_flaws}
+use Rattle.go_statements.specs.Assign.{left_of, left_flaws, target_of, takes, value_for, same_number, count_of, several_right, first_right, Fresh, new_name, old_name, blank_name, no_name, fresh_of, Defined, with_new, new_stmts, new_target, define_new, define_one, define_each, define_flaws, defined_did, define_type_new, define_type, define_types, define_miscounted, define_by, define, sides_typed, sides_told, old_flaws, names_flaws, first_place, undeclared, where_typed, all_typed, all_in_flaws, fresh_uses}
 use Rattle.go_sound.specs.Added.{TypeIsSet, TypesAreSet}
 use Rattle.go_sound.specs.GoesOn.{GoesOn}
 use Rattle.go_sound.specs.SoundTyped.{HasOperators, AllHaveOperators, IsScalarType, AreScalarTypes}
 use Rattle.go_sound.specs.SoundValues.{IsReady}
 use Rattle.go_sound.proofs.SoundWords.{scalar_good}
 use Rattle.go_sound.proofs.SoundBodies.{no_first, no_second}
-use Rattle.go_sound.proofs.GoesOnSteps.{stays, then_on, left_on, define_each_on, define_types_on, variable_on, uses_all_on}
+use Rattle.go_sound.proofs.GoesOnSteps.{stays, then_on, define_each_on, define_types_on, variable_on, uses_all_on, fresh_sides_on}
 use Rattle.go_programs.specs.SoundStatements.{VariablesBefore, Holds}
 use Rattle.go_programs.proofs.Words.{at_vars, after_vars, after_append, sound_append, Extends, extends_same, extends_then, extends_less, extends_var, newest, one_of_three, two_of_three, three_of_three}
-use Rattle.go_programs.proofs.Ready.{State, Like, like_same, like_then, like_left, like_uses_all, like_noted, ready_vars, holds_part, Done, Scoped, scoped_like, scoped_named, scoped_fresh, Adds, adds_none, adds_like, adds_then, adds_var}
+use Rattle.go_programs.proofs.Ready.{State, Like, like_same, like_noted, ready_vars, holds_part, Done, Scoped, scoped_like, scoped_named, scoped_fresh, Adds, adds_none, adds_like, adds_then, adds_var, like_fresh_sides}
 use Rattle.go_programs.proofs.Here.{any_there, never_told_before, AreSeveralHere, several_there}
 use Rattle.go_programs.proofs.Stores.{left_here, Stored, stored_none, stored_more, stored_several, left_stored, target_takes, sides_untold}
 
@@ -48,6 +48,10 @@ pub if_next : (c : Bool) (w v : Walk) → v.next ≡ w.next → (if c then w els
 if_next true w v h = refl
 if_next false w v h = h
 
+pub if_lost : (c : Bool) (w v : Walk) → v.lost ≡ w.lost → (if c then w else v).lost ≡ w.lost
+if_lost true w v h = refl
+if_lost false w v h = h
+
 pub named_names : (n : Name) (d : Decl) (w : Walk) → (with_name n d w).names ≡ w.names
 named_names n d w = if_names (is_blank n.text) w (with_scope n d w) refl
 
@@ -62,6 +66,9 @@ variable_vars n u w = if_vars (is_blank n.text) (noted n (fresh u w)) (with_scop
 
 variable_next : (n : Name) (u : Ty) (w : Walk) → (with_variable n u w).next ≡ suc w.next
 variable_next n u w = let l = like_noted n (fresh u w) in if_next (is_blank n.text) (noted n (fresh u w)) (with_scope n (variable w.next u) (noted n (fresh u w))) refl ∙ l.next
+
+variable_lost : (n : Name) (u : Ty) (w : Walk) → (with_variable n u w).lost ≡ w.lost
+variable_lost n u w = let l = like_noted n (fresh u w) in if_lost (is_blank n.text) (noted n (fresh u w)) (with_scope n (variable w.next u) (noted n (fresh u w))) refl ∙ l.lost
 
 abbrev number_or : ℕ → Decl → ℕ
 number_or k (variable id u) = id
@@ -89,10 +96,10 @@ scoped_variable p a vs w n u s t h =
     before id v e = let i = variable_number w.next id u v e in let j = same.next in omega arith
 
 pub adds_variable : (p : CoreProgram) (w : Walk) (n : Name) (u : Ty) → IsScalarType p u → Adds p w (with_variable n u w)
-adds_variable p w n u s = adds_var p w (with_variable n u w) (var_of w.next u) (variable_vars n u w) (variable_names n u w) s
+adds_variable p w n u s = adds_var p w (with_variable n u w) (var_of w.next u) (variable_vars n u w) (variable_names n u w) (variable_lost n u w) s
 
 pub adds_named : (p : CoreProgram) (w : Walk) (n : Name) (d : Decl) → Adds p w (with_name n d w)
-adds_named p w n d = adds_none p w (with_name n d w) (if_vars (is_blank n.text) w (with_scope n d w) refl) (named_names n d w)
+adds_named p w n d = adds_none p w (with_name n d w) (if_vars (is_blank n.text) w (with_scope n d w) refl) (named_names n d w) (if_lost (is_blank n.text) w (with_scope n d w) refl)
 
 -- the program holds a variable that is declared
 pub held_variable : (p : CoreProgram) (declarable : List Var) (n : Name) (u : Ty) (w z : Walk) → GoesOn (with_variable n u w) z → Holds p declarable w z → Contains declarable (var_of w.next u)
@@ -396,9 +403,9 @@ module _ (p : CoreProgram) (a : node.Around) (vs : List Var) (b : Around) (w : W
       by_number false n i g = absurd (sides_always (flaw at 84) fs xs (t.MoreExprs y t.NoExprs) sides g)
 
   pub define_done : (at : Place) (xs ys : t.Exprs) → AllHaveOperators ys → Holds p a.declarable w (define at xs ys w).walk → (define at xs ys w).flaws ≡ [] → Done p a vs w (define at xs ys w)
-  define_done at xs ys q k h = define_by_done at (define_flaws at w xs ys) xs ys (uses_all ys (left_uses xs w))
-      (λ q o. names_untold xs (no_first (names_flaws w [] xs) _ q) o) (like_then w (left_uses xs w) (uses_all ys (left_uses xs w)) (like_left xs w) (like_uses_all ys (left_uses xs w))) q (several_right w ys) refl held h
+  define_done at xs ys q k h = define_by_done at (define_flaws at w xs ys) xs ys (uses_all ys (fresh_uses xs w))
+      (λ q o. names_untold xs (no_first (names_flaws w [] xs) _ q) o) (like_fresh_sides xs ys w s.ready.all_typed) q (several_right w ys) refl held h
     where
-      held : Holds p a.declarable (uses_all ys (left_uses xs w)) (define at xs ys w).walk
+      held : Holds p a.declarable (uses_all ys (fresh_uses xs w)) (define at xs ys w).walk
       held =
-          holds_part p a.declarable w (uses_all ys (left_uses xs w)) (define at xs ys w).walk (define at xs ys w).walk (then_on w (left_uses xs w) _ (left_on xs w) (uses_all_on ys (left_uses xs w))) (stays (define at xs ys w).walk) k
+          holds_part p a.declarable w (uses_all ys (fresh_uses xs w)) (define at xs ys w).walk (define at xs ys w).walk (then_on w (fresh_uses xs w) _ (fresh_sides_on xs w) (uses_all_on ys (fresh_uses xs w))) (stays (define at xs ys w).walk) k

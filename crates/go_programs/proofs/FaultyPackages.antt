@@ -1,6 +1,6 @@
 -- Exactly the faulty declarations of a package are told.
-use Rattle.std.proofs.Common.{◌≡◌, ◌⊎◌, ◌↔◌, inl, inr, ◌==◌, ℕ, suc, ◌+◌, ◌<◌, nat_lt, List, [], ◌∷◌, ◌++◌, refl, Bool, true, false, ◌&&◌, Option, Some, None, if◌then◌else◌}
-use Rattle.std.proofs.lemmas.Bool.{eqb-true, eq-eqb, ltb-true, lt-ltb}
+use Rattle.std.proofs.Common.{◌≡◌, ◌⊎◌, ◌↔◌, inl, inr, ℕ, suc, ◌+◌, ◌<◌, nat_lt, List, [], ◌∷◌, ◌++◌, refl, Bool, true, false, ◌&&◌, Option, Some, None, if◌then◌else◌}
+use Rattle.std.proofs.lemmas.Bool.{ltb-true, lt-ltb}
 use Rattle.gj_base.specs.declared.place.Place.{Place}
 use Rattle.go_syntax.specs.Tree as t
 use Rattle.go_syntax.specs.declared.tree.Name.{Name}
@@ -21,12 +21,13 @@ use Rattle.go_packages.specs.Items.{is_init}
 use Rattle.go_packages.specs.Items.{items_of}
 use Rattle.go_packages.specs.Known.{outside}
 use Rattle.go_packages.specs.Cycles.{cycle_flaws}
-use Rattle.go_packages.specs.Functions.{Between, core_function, body_of, after_body, and_function, functions_from, at_start, around_body}
-use Rattle.go_packages.specs.Checked.{known_in, between_of, functions_in, first_byte, count_functions, or_generated}
-use Rattle.go_packages.specs.Told.{each_told, spec_told, specs_told, types_told, is_main, takes_something, main_told, number_told, function_told, decls_told, names_told}
-use Rattle.go_programs.specs.FaultyPackages.{HasTypeFault, HasSpecTypeFault, HasTypedFault, HasConstantFault, SomeConstantFault, SomeNodeFault, HasValuesFault, HasSpecFault, SomeSpecFault, SomeTypeFault, HasMainFault, HasFunctionFault, IsTooFar, SomeDeclFault, DeclsToldExactly, SomeBodyFault, HasPackageFault, ToldExactly}
+use Rattle.go_packages.specs.Functions.{Between, after_body, function_then, functions_from, at_start, around_body}
+use Rattle.go_packages.specs.Checked.{known_in, between_of, functions_in, first_byte, first_too_far, count_functions, or_generated}
+use Rattle.go_packages.specs.Told.{each_told, spec_told, specs_told, types_told, is_main, takes_something, main_told, function_told, decls_told, names_told}
+use Rattle.go_programs.specs.FaultyPackages.{HasTypeFault, HasSpecTypeFault, HasTypedFault, HasConstantFault, SomeConstantFault, SomeNodeFault, HasValuesFault, HasSpecFault, SomeSpecFault, SomeTypeFault, HasMainFault, HasFunctionFault, SomeDeclFault, DeclsToldExactly, SomeBodyFault, HasPackageFault, ToldExactly}
 use Rattle.go_programs.specs.FaultyNames.{SomeNameFault, SomeCircle}
 use Rattle.go_programs.specs.FaultyStatements.{HasBodyFault}
+use Rattle.go_programs.proofs.Words.{body_at}
 use Rattle.go_programs.proofs.Exactly.{both, same, one, where_passes, where_both, node_exact}
 use Rattle.go_programs.proofs.FaultyNames.{names_told_exactly}
 use Rattle.go_programs.proofs.FaultyCircles.{circles_told_exactly}
@@ -121,66 +122,56 @@ module _ (f : Flaw) where
       both f (spec_told at (counting k w) ns v (t.MoreExprs z zs)) (specs_told at (suc k) w v (t.MoreExprs z zs) vs) (HasSpecFault at (counting k w) ns v (t.MoreExprs z zs) f) (SomeSpecFault at (suc k) w v (t.MoreExprs z zs) vs f)
       (spec_exact at (counting k w) ns v (t.MoreExprs z zs)) (specs_exact at (suc k) w v (t.MoreExprs z zs) vs)
 
-  number_exact : (at : Place) (id : ℕ) → IsIn f (number_told at id) ↔ IsTooFar at id f
-  number_exact at id = (λ h. there ((where_passes f (id == 65535) (flaw at 79)).0 h), λ r. (where_passes f (id == 65535) (flaw at 79)).1 (eq-eqb id 65535 r.0, r.1))
-    where
-      there : ((id == 65535) ≡ true) × (f ≡ flaw at 79) → IsTooFar at id f
-      there r = (eqb-true id 65535 r.0, r.1)
-
-  -- a declaration and those after it
-  with_number : (xs zs : List Flaw) (A B : Type 0) (at : Place) (id : ℕ) → (IsIn f xs ↔ A) → (IsIn f zs ↔ B) → IsIn f (xs ++ number_told at id ++ zs) ↔ ((A ⊎ IsTooFar at id f) ⊎ B)
-  with_number xs zs A B at id p q = both f (xs ++ number_told at id) zs (A ⊎ IsTooFar at id f) B (both f xs (number_told at id) A (IsTooFar at id f) p (number_exact at id)) q
-
-  decls_exact : (id : ℕ) (w : Walk) (ds : List t.Decl) → IsIn f (decls_told id w ds) ↔ SomeDeclFault id w ds f
-  decls_exact id w [] = same f ⊥
-  decls_exact id w (t.ConstDecl at vs ∷ ds) =
-      both f (specs_told at 0 w t.NoExpr t.NoExprs vs) (decls_told id w ds) (SomeSpecFault at 0 w t.NoExpr t.NoExprs vs f) (SomeDeclFault id w ds f) (specs_exact at 0 w t.NoExpr t.NoExprs vs) (decls_exact id w ds)
-  decls_exact id w (t.TypeDecl at ts ∷ ds) = both f (types_told w ts) (decls_told id w ds) (SomeTypeFault w ts f) (SomeDeclFault id w ds f) (types_exact f w ts) (decls_exact id w ds)
-  decls_exact id w (t.VarDecl at vs ∷ ds) = both f (flaw at 0 ∷ []) (decls_told id w ds) (f ≡ flaw at 0) (SomeDeclFault id w ds f) (one f (flaw at 0)) (decls_exact id w ds)
-  decls_exact id w (t.FuncDecl at n s b ∷ ds) =
-      with_number (function_told at n s w) (decls_told (suc id) w ds) (HasFunctionFault at n s w (is_init n) f) (SomeDeclFault (suc id) w ds f) at id (function_exact f w at n s (is_init n)) (decls_exact (suc id) w ds)
-  decls_exact id w (t.MethodDecl at p rs n s b ∷ ds) =
-      with_number (flaw at 0 ∷ []) (decls_told (suc id) w ds) (f ≡ flaw at 0) (SomeDeclFault (suc id) w ds f) at id (one f (flaw at 0)) (decls_exact (suc id) w ds)
+  decls_exact : (w : Walk) (ds : List t.Decl) → IsIn f (decls_told w ds) ↔ SomeDeclFault w ds f
+  decls_exact w [] = same f ⊥
+  decls_exact w (t.ConstDecl at vs ∷ ds) =
+      both f (specs_told at 0 w t.NoExpr t.NoExprs vs) (decls_told w ds) (SomeSpecFault at 0 w t.NoExpr t.NoExprs vs f) (SomeDeclFault w ds f) (specs_exact at 0 w t.NoExpr t.NoExprs vs) (decls_exact w ds)
+  decls_exact w (t.TypeDecl at ts ∷ ds) = both f (types_told w ts) (decls_told w ds) (SomeTypeFault w ts f) (SomeDeclFault w ds f) (types_exact f w ts) (decls_exact w ds)
+  decls_exact w (t.VarDecl at vs ∷ ds) = both f (flaw at 0 ∷ []) (decls_told w ds) (f ≡ flaw at 0) (SomeDeclFault w ds f) (one f (flaw at 0)) (decls_exact w ds)
+  decls_exact w (t.FuncDecl at n s b ∷ ds) = both f (function_told at n s w) (decls_told w ds) (HasFunctionFault at n s w (is_init n) f) (SomeDeclFault w ds f) (function_exact f w at n s (is_init n)) (decls_exact w ds)
+  decls_exact w (t.MethodDecl at p rs n s b ∷ ds) = both f (flaw at 0 ∷ []) (decls_told w ds) (f ≡ flaw at 0) (SomeDeclFault w ds f) (one f (flaw at 0)) (decls_exact w ds)
 
 pub decls_told_exactly : DeclsToldExactly
-decls_told_exactly id w ds f = decls_exact f id w ds
+decls_told_exactly w ds f = decls_exact f w ds
 
 -- ---- bodies
 
-bodies_exact : (f : Flaw) (w : Walk) (ds : List t.Decl) (k : Between) → IsIn f (functions_from w ds k).flaws ↔ SomeBodyFault w ds k f
-bodies_exact f w [] k = same f ⊥
-bodies_exact f w (t.FuncDecl at n s b ∷ ds) k = by_test (is_init n) (bodies_exact f w ds k) (bodies_exact f w ds (after_body (body_of w k s b)))
+bodies_exact : (f : Flaw) (far : Option Place) (w : Walk) (ds : List t.Decl) (k : Between) → IsIn f (functions_from far w ds k).flaws ↔ SomeBodyFault far w ds k f
+bodies_exact f far w [] k = same f ⊥
+bodies_exact f far w (t.FuncDecl at n s b ∷ ds) k = by_test (is_init n) (bodies_exact f far w ds k) (bodies_exact f far w ds (after_body (body_at far w k at n s b)))
   where
-    by_test : (c : Bool) → (IsIn f (functions_from w ds k).flaws ↔ SomeBodyFault w ds k f) → (IsIn f (functions_from w ds (after_body (body_of w k s b))).flaws ↔ SomeBodyFault w ds (after_body (body_of w k s b)) f)
-        → IsIn f (if c then functions_from w ds k else and_function (core_function at n (sig_types w s) (body_of w k s b)) (body_of w k s b).flaws (functions_from w ds (after_body (body_of w k s b)))).flaws
-        ↔ (((c ≡ false) × HasBodyFault b (around_body w s) (all_bound w (params_of s ++ results_of s) (inside (at_start w k))) f) ⊎ SomeBodyFault w ds (if c then k else after_body (body_of w k s b)) f)
+    by_test : (c : Bool) → (IsIn f (functions_from far w ds k).flaws ↔ SomeBodyFault far w ds k f)
+        → (IsIn f (functions_from far w ds (after_body (body_at far w k at n s b))).flaws ↔ SomeBodyFault far w ds (after_body (body_at far w k at n s b)) f)
+        → IsIn f (if c then functions_from far w ds k else function_then at n (sig_types w s) (body_at far w k at n s b) (functions_from far w ds)).flaws
+        ↔ (((c ≡ false) × HasBodyFault b (around_body far w at n s) (all_bound w (params_of s ++ results_of s) (inside (at_start w k))) f) ⊎ SomeBodyFault far w ds (if c then k else after_body (body_at far w k at n s b)) f)
     by_test true p q = (λ h. inr (p.0 h), λ r. back r)
       where
-        back : ((true ≡ false) × HasBodyFault b (around_body w s) (all_bound w (params_of s ++ results_of s) (inside (at_start w k))) f) ⊎ SomeBodyFault w ds k f → IsIn f (functions_from w ds k).flaws
+        back : ((true ≡ false) × HasBodyFault b (around_body far w at n s) (all_bound w (params_of s ++ results_of s) (inside (at_start w k))) f) ⊎ SomeBodyFault far w ds k f → IsIn f (functions_from far w ds k).flaws
         back (inl r) = let e : true ≡ false = r.0 in cc
         back (inr r) = p.1 r
     by_test false p q =
-        both f (body_of w k s b).flaws (functions_from w ds (after_body (body_of w k s b))).flaws ((false ≡ false) × HasBodyFault b (around_body w s) (all_bound w (params_of s ++ results_of s) (inside (at_start w k))) f) (SomeBodyFault w ds (after_body (body_of w k s b)) f)
+        both f (body_at far w k at n s b).flaws (functions_from far w ds (after_body (body_at far w k at n s b))).flaws
+        ((false ≡ false) × HasBodyFault b (around_body far w at n s) (all_bound w (params_of s ++ results_of s) (inside (at_start w k))) f) (SomeBodyFault far w ds (after_body (body_at far w k at n s b)) f)
         (λ h. (refl, here.0 h), λ r. here.1 r.1) q
       where
-        here : IsIn f (body_of w k s b).flaws ↔ HasBodyFault b (around_body w s) (all_bound w (params_of s ++ results_of s) (inside (at_start w k))) f
-        here = bodies_told_exactly b (around_body w s) (all_bound w (params_of s ++ results_of s) (inside (at_start w k))) f
-bodies_exact f w (t.ConstDecl at vs ∷ ds) k = bodies_exact f w ds k
-bodies_exact f w (t.TypeDecl at ts ∷ ds) k = bodies_exact f w ds k
-bodies_exact f w (t.VarDecl at vs ∷ ds) k = bodies_exact f w ds k
-bodies_exact f w (t.MethodDecl at p rs n s b ∷ ds) k = bodies_exact f w ds k
+        here : IsIn f (body_at far w k at n s b).flaws ↔ HasBodyFault b (around_body far w at n s) (all_bound w (params_of s ++ results_of s) (inside (at_start w k))) f
+        here = bodies_told_exactly b (around_body far w at n s) (all_bound w (params_of s ++ results_of s) (inside (at_start w k))) f
+bodies_exact f far w (t.ConstDecl at vs ∷ ds) k = bodies_exact f far w ds k
+bodies_exact f far w (t.TypeDecl at ts ∷ ds) k = bodies_exact f far w ds k
+bodies_exact f far w (t.VarDecl at vs ∷ ds) k = bodies_exact f far w ds k
+bodies_exact f far w (t.MethodDecl at p rs n s b ∷ ds) k = bodies_exact f far w ds k
 
 -- ---- the whole
 
-package_exact : (ds : List t.Decl) (f : Flaw) → IsIn f (names_told [] (items_of ds) ++ cycle_flaws (known_in ds).binds (items_of ds) ++ decls_told 0 (outside (known_in ds)) ds ++ (functions_in (known_in ds) ds).flaws) ↔ HasPackageFault ds f
+package_exact : (ds : List t.Decl) (f : Flaw) → IsIn f (names_told [] (items_of ds) ++ cycle_flaws (known_in ds).binds (items_of ds) ++ decls_told (outside (known_in ds)) ds ++ (functions_in (known_in ds) ds).flaws) ↔ HasPackageFault ds f
 package_exact ds f =
-    both f (names_told [] (items_of ds) ++ cycle_flaws (known_in ds).binds (items_of ds) ++ decls_told 0 (outside (known_in ds)) ds) (functions_in (known_in ds) ds).flaws
-    ((SomeNameFault (items_of ds) f ⊎ SomeCircle (outside (known_in ds)).scopes (items_of ds) f) ⊎ SomeDeclFault 0 (outside (known_in ds)) ds f) (SomeBodyFault (outside (known_in ds)) ds (between_of (known_in ds)) f)
-    (both f (names_told [] (items_of ds) ++ cycle_flaws (known_in ds).binds (items_of ds)) (decls_told 0 (outside (known_in ds)) ds) (SomeNameFault (items_of ds) f ⊎ SomeCircle (outside (known_in ds)).scopes (items_of ds) f)
-    (SomeDeclFault 0 (outside (known_in ds)) ds f)
+    both f (names_told [] (items_of ds) ++ cycle_flaws (known_in ds).binds (items_of ds) ++ decls_told (outside (known_in ds)) ds) (functions_in (known_in ds) ds).flaws
+    ((SomeNameFault (items_of ds) f ⊎ SomeCircle (outside (known_in ds)).scopes (items_of ds) f) ⊎ SomeDeclFault (outside (known_in ds)) ds f) (SomeBodyFault (first_too_far ds) (outside (known_in ds)) ds (between_of (known_in ds)) f)
+    (both f (names_told [] (items_of ds) ++ cycle_flaws (known_in ds).binds (items_of ds)) (decls_told (outside (known_in ds)) ds) (SomeNameFault (items_of ds) f ⊎ SomeCircle (outside (known_in ds)).scopes (items_of ds) f)
+    (SomeDeclFault (outside (known_in ds)) ds f)
     (both f (names_told [] (items_of ds)) (cycle_flaws (known_in ds).binds (items_of ds)) (SomeNameFault (items_of ds) f) (SomeCircle (outside (known_in ds)).scopes (items_of ds) f) (names_told_exactly (items_of ds) f)
     (circles_told_exactly (known_in ds).binds (items_of ds) f))
-    (decls_exact f 0 (outside (known_in ds)) ds)) (bodies_exact f (outside (known_in ds)) ds (between_of (known_in ds)))
+    (decls_exact f (outside (known_in ds)) ds)) (bodies_exact f (first_too_far ds) (outside (known_in ds)) ds (between_of (known_in ds)))
 
 or_exact : (n : ℕ) (fs : List Flaw) (A : Flaw → Type 0) → ((h : Flaw) → IsIn h fs ↔ A h) → (f : Flaw) → IsIn f (or_generated n fs) ↔ (A f ⊎ (((h : Flaw) → A h → ⊥) × (65535 < n + 2) × (f ≡ flaw first_byte 79)))
 or_exact n [] A p f = (λ h. (let r = (where_passes f (nat_lt 65535 (n + 2)) (flaw first_byte 79)).0 h in inr (λ k a. (p k).1 a, ltb-true 65535 (n + 2) r.0, r.1)), λ r. back r)
@@ -196,4 +187,4 @@ or_exact n (g ∷ gs) A p f = (λ h. inl ((p f).0 h), λ r. back r)
 
 pub told_exactly : ToldExactly
 told_exactly ds f =
-    or_exact (count_functions ds) (names_told [] (items_of ds) ++ cycle_flaws (known_in ds).binds (items_of ds) ++ decls_told 0 (outside (known_in ds)) ds ++ (functions_in (known_in ds) ds).flaws) (HasPackageFault ds) (λ h. package_exact ds h) f
+    or_exact (count_functions ds) (names_told [] (items_of ds) ++ cycle_flaws (known_in ds).binds (items_of ds) ++ decls_told (outside (known_in ds)) ds ++ (functions_in (known_in ds) ds).flaws) (HasPackageFault ds) (λ h. package_exact ds h) f

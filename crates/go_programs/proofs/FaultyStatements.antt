@@ -1,5 +1,5 @@
 -- Exactly the faulty statements of a body are told.
-use Rattle.std.proofs.Common.{◌≡◌, ◌⊎◌, ◌↔◌, inl, ◌&&◌, ◌||◌, ℕ, suc, List, [], ◌∷◌, ◌++◌, refl, sym, subst, Bool, true, false, not, Option, Some, None}
+use Rattle.std.proofs.Common.{◌≡◌, ◌⊎◌, ◌↔◌, inl, ◌&&◌, ◌||◌, ◌==◌, eqb-true, eq-eqb, ◌∙◌, ℕ, suc, List, [], ◌∷◌, ◌++◌, refl, sym, subst, Bool, true, false, not, Option, Some, None}
 use Rattle.gj_base.specs.declared.place.Place.{Place}
 use Rattle.go_syntax.specs.Tree as t
 use Rattle.go_const.specs.declared.constant.Const.{Const}
@@ -11,8 +11,8 @@ use Rattle.go_typing.specs.Faulty.{IsIn, HasFault}
 use Rattle.go_statements.specs.Walk.{Walk, Around, Did, fresh, pushed, within, uses, uses_all, unused}
 use Rattle.go_statements.specs.Expressions.{flaws_in, value_alone, condition, type_of}
 use Rattle.go_statements.specs.Labels.{label_of, labels_told}
-use Rattle.go_statements.specs.Statements.{unlabeled, with_target, next_label, condition_told, condition_uses, post_did, tag_of, case_answer, case_constant, repeated, repeated_flaws, and_constant, case_tests, Clauses, default_flaws, falls, is_last, is_default, switch_did, stmt, maybe, block, stmts, clause_stmts, clauses, many_told, missing_return, where_clean}
-use Rattle.go_programs.specs.FaultyStatements.{HasConditionFault, HasPostFault, HasTagFault, tag_type, SomeCaseFault, HasStmtFault, HasMaybeFault, HasBlockFault, HasStmtsFault, HasClauseFault, HasClausesFault, PartOrWhole, StatementsToldExactly, BodiesToldExactly}
+use Rattle.go_statements.specs.Statements.{unlabeled, with_target, next_label, condition_told, condition_uses, post_did, tag_of, case_answer, case_constant, repeated, repeated_flaws, and_constant, case_tests, Clauses, default_flaws, falls, is_last, is_default, switch_did, stmt, maybe, block, stmts, clause_stmts, clauses, many_told, parts_typed, where_clean, where_whole, whole_told, with_labels}
+use Rattle.go_programs.specs.FaultyStatements.{HasConditionFault, HasPostFault, HasTagFault, tag_type, SomeCaseFault, HasStmtFault, HasMaybeFault, HasBlockFault, HasStmtsFault, HasClauseFault, HasClausesFault, PartOrWhole, HasPartFault, UsesTyped, HasWholeFault, StatementsToldExactly, BodiesToldExactly}
 use Rattle.go_programs.proofs.Exactly.{both, same, one, node_exact}
 
 module _ (f : Flaw) where
@@ -74,9 +74,18 @@ clean_exact : (fs : List Flaw) (A : Flaw → Type 0) → ((h : Flaw) → IsIn h 
 clean_exact [] A p xs f = (λ h. (λ k a. (p k).1 a, h), λ r. r.1)
 clean_exact (g ∷ gs) A p xs f = (λ h. absurd h, λ r. absurd (r.0 g ((p g).0 (inl refl))))
 
+-- where all parts are typed
+whole_exact : (m n : ℕ) (fs : List Flaw) (A : Flaw → Type 0) → ((h : Flaw) → IsIn h fs ↔ A h) → (xs : List Flaw) (f : Flaw) → IsIn f (where_whole (m == n) fs xs) ↔ (((h : Flaw) → A h → ⊥) × (m ≡ n) × IsIn f xs)
+whole_exact m n fs A p xs f = by_test (m == n) refl
+  where
+    by_test : (c : Bool) → (m == n) ≡ c → IsIn f (where_whole c fs xs) ↔ (((h : Flaw) → A h → ⊥) × (m ≡ n) × IsIn f xs)
+    by_test true e = (λ h. (let r = (clean_exact fs A p xs f).0 h in (r.0, eqb-true m n e, r.1)), λ r. (clean_exact fs A p xs f).1 (r.0, r.2))
+    by_test false e = (λ h. absurd h, λ r. let g : true ≡ false = sym (eq-eqb m n r.1) ∙ e in cc)
+
 -- a part of a `switch`, or the whole where nothing is told of a part
-part_or_whole : (f : Flaw) (fs : List Flaw) (A : Flaw → Type 0) (at : Place) (cs : t.Clauses) → ((h : Flaw) → IsIn h fs ↔ A h) → IsIn f (fs ++ where_clean fs (many_told at cs)) ↔ PartOrWhole A at cs f
-part_or_whole f fs A at cs p = both f fs (where_clean fs (many_told at cs)) (A f) (((h : Flaw) → A h → ⊥) × IsIn f (many_told at cs)) (p f) (clean_exact fs A p (many_told at cs) f)
+part_or_whole : (f : Flaw) (fs : List Flaw) (A : Flaw → Type 0) (at : Place) (cs : t.Clauses) (is_typed : Bool) → ((h : Flaw) → IsIn h fs ↔ A h) → IsIn f (fs ++ where_clean fs (many_told at cs is_typed)) ↔ PartOrWhole A at cs is_typed f
+part_or_whole f fs A at cs is_typed p =
+    both f fs (where_clean fs (many_told at cs is_typed)) (A f) (((h : Flaw) → A h → ⊥) × IsIn f (many_told at cs is_typed)) (p f) (clean_exact fs A p (many_told at cs is_typed) f)
 
 mutual
   pub stmt_exact : (f : Flaw) (s : t.Stmt) (a : Around) (w : Walk) → IsIn f (stmt s a w).flaws ↔ HasStmtFault s a w f
@@ -112,7 +121,7 @@ mutual
       (HasMaybeFault init (unlabeled a) (pushed w) g ⊎ HasTagFault (maybe init (unlabeled a) (pushed w)).walk x g)
       ⊎ HasClausesFault cs (with_target (condition_uses x (maybe init (unlabeled a) (pushed w)).walk).next_label false a) (condition_uses x (maybe init (unlabeled a) (pushed w)).walk).next (tag_of (maybe init (unlabeled a) (pushed w)).walk x).type_ 0 [] false
       (next_label (fresh (tag_type (tag_of (maybe init (unlabeled a) (pushed w)).walk x).type_) (condition_uses x (maybe init (unlabeled a) (pushed w)).walk))) g)
-      at cs
+      at cs (parts_typed a (t.SwitchStmt at init x cs) w (stmt (t.SwitchStmt at init x cs) a w).walk)
       (λ h.
       switch_exact h x (maybe init (unlabeled a)) (λ tag u label. clauses cs (with_target label false a) tag u 0 [] false) (pushed w) _ _ (maybe_exact h init (unlabeled a) (pushed w))
       (clauses_exact h cs (with_target (condition_uses x (maybe init (unlabeled a) (pushed w)).walk).next_label false a) (condition_uses x (maybe init (unlabeled a) (pushed w)).walk).next (tag_of (maybe init (unlabeled a) (pushed w)).walk x).type_ 0 [] false
@@ -163,10 +172,20 @@ mutual
 pub statements_told_exactly : StatementsToldExactly
 statements_told_exactly s a w f = stmt_exact f s a w
 
+parts_exact : (at : Place) (ss : t.Stmts) (end : Place) (a : Around) (w : Walk) (f : Flaw)
+    → IsIn f
+    ((stmts ss (with_labels (t.BlockOf at ss end) a) w).flaws ++ labels_told (t.BlockOf at ss end)
+    ++ unused (stmts ss (with_labels (t.BlockOf at ss end) a) w).walk.declared (stmts ss (with_labels (t.BlockOf at ss end) a) w).walk.used)
+    ↔ HasPartFault (t.BlockOf at ss end) a w f
+parts_exact at ss end a w f =
+    let b = t.BlockOf at ss end in
+    let d = stmts ss (with_labels b a) w in
+    both f (d.flaws ++ labels_told b) (unused d.walk.declared d.walk.used) _ _ (both f d.flaws (labels_told b) _ _ (stmts_exact f ss (with_labels b a) w) (same f (IsIn f (labels_told b)))) (same f (IsIn f (unused d.walk.declared d.walk.used)))
+
 pub bodies_told_exactly : BodiesToldExactly
 bodies_told_exactly (t.BlockOf at ss end) a w f =
-    let d = stmts ss a w in
     let b = t.BlockOf at ss end in
-    both f (d.flaws ++ labels_told b ++ unused d.walk.declared d.walk.used) (where_clean d.flaws (missing_return a.results end d.core)) _ _
-    (both f (d.flaws ++ labels_told b) (unused d.walk.declared d.walk.used) _ _ (both f d.flaws (labels_told b) _ _ (stmts_exact f ss a w) (same f (IsIn f (labels_told b)))) (same f (IsIn f (unused d.walk.declared d.walk.used))))
-    (clean_exact d.flaws (HasStmtsFault ss a w) (λ h. stmts_exact h ss a w) (missing_return a.results end d.core) f)
+    let d = stmts ss (with_labels b a) w in
+    both f (d.flaws ++ labels_told b ++ unused d.walk.declared d.walk.used) (where_whole (d.walk.lost == w.lost) (d.flaws ++ labels_told b ++ unused d.walk.declared d.walk.used) (whole_told a end d.core)) (HasPartFault b a w f)
+    (((g : Flaw) → HasPartFault b a w g → ⊥) × UsesTyped b a w × HasWholeFault b a w f) (parts_exact at ss end a w f)
+    (whole_exact d.walk.lost w.lost (d.flaws ++ labels_told b ++ unused d.walk.declared d.walk.used) (HasPartFault b a w) (λ h. parts_exact at ss end a w h) (whole_told a end d.core) f)

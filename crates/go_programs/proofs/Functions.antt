@@ -1,5 +1,5 @@
 -- Functions of whose signatures and bodies nothing is told have a meaning.
-use Rattle.std.proofs.Common.{◌≡◌, ◌≤◌, ◌<◌, ◌⊎◌, inl, inr, ℕ, zero, suc, length, take, drop, get_or, List, [], ◌∷◌, ◌++◌, append_assoc, append-nil, refl, sym, subst, ap, ◌∙◌, arith, IsTrue, Bool, true, false, Option, Some, None, if◌then◌else◌, Contains, All}
+use Rattle.std.proofs.Common.{◌≡◌, ◌≤◌, ◌<◌, ◌⊎◌, inl, inr, ℕ, zero, suc, length, take, drop, get_or, List, [], ◌∷◌, ◌++◌, append_assoc, append-nil, refl, sym, subst, ap, ◌∙◌, arith, IsTrue, Bool, true, false, Option, Some, None, if◌then◌else◌, Contains, All, ◌==◌, eq-eqb}
 use Rattle.std.proofs.lemmas.List.Elements.{Contains-append_cases, Contains-get_or}
 use Rattle.gj_base.specs.declared.place.Place.{Place}
 use Rattle.go_syntax.specs.Tree as t
@@ -15,23 +15,23 @@ use Rattle.go_core.specs.Sound.{SoundStmts}
 use Rattle.go_core.specs.SoundProgram.{SoundFunc}
 use Rattle.go_typing.specs.Env.{variable, lookup}
 use Rattle.go_typing.specs.Answer.{Flaw, flaw}
-use Rattle.go_statements.specs.Walk.{Walk, Did, body}
+use Rattle.go_statements.specs.Walk.{Walk, Around, Did, body, unused}
 use Rattle.go_statements.specs.Labels.{labels_told}
-use Rattle.go_statements.specs.Statements.{stmts, missing_return, where_clean}
-use Rattle.go_statements.specs.Walk.{unused}
+use Rattle.go_statements.specs.Statements.{stmts, missing_return, far_told, where_clean, where_whole, whole_told, with_labels}
 use Rattle.go_packages.specs.Signature.{SigTypes, params_of, results_of, all_bound, inside, sig_flaws, sig_types, list_flaws, params_place, results_place, names_flaws}
-use Rattle.go_packages.specs.Functions.{Between, at_start, results_typed, around_body, body_of, core_function}
+use Rattle.go_packages.specs.Functions.{Between, at_start, results_typed, around_body, core_function}
 use Rattle.go_sound.specs.Added.{TypesAreSet}
 use Rattle.go_sound.specs.GoesOn.{AreNumbered, GoesOn}
 use Rattle.go_sound.specs.SoundTyped.{IsScalarType, OptionIsSound}
 use Rattle.go_sound.specs.SoundValues.{IsReady}
+use Rattle.go_sound.proofs.SoundBodies.{no_first}
 use Rattle.go_sound.proofs.SoundWords.{scalar_good}
 use Rattle.go_sound.proofs.GoesOnSteps.{then_on}
 use Rattle.go_sound.proofs.GoesOnBodies.{all_bound_on, stmts_on}
 use Rattle.go_programs.specs.Grammar.{SigOfGrammar, BlockOfGrammar}
 use Rattle.go_programs.specs.SoundStatements.{Holds}
 use Rattle.go_programs.specs.SoundFunctions.{PackageIsReady, FunctionsAreSound}
-use Rattle.go_programs.proofs.Words.{at_vars, three_of_three, one_of_four, four_of_four}
+use Rattle.go_programs.proofs.Words.{at_vars, body_at, three_of_three, one_of_four, four_of_four}
 use Rattle.go_programs.proofs.Ready.{State, ready_later, ready_pushed, types_still, lookup_pushed, numbers_grow, Scoped, Done, Adds, adds_then}
 use Rattle.go_programs.proofs.Statements.{stmts_done}
 use Rattle.go_programs.proofs.Signatures.{AllTyped, all_append, tys_in, types_in, types_listed, types_joined, AreFound, all_found, IsSig, sig_here, sig_found}
@@ -67,10 +67,18 @@ no_variable p w pack x id u e =
     let s = subst (OptionIsSound p nowhere) e (pack.scopes nowhere x) in
     let m : None ≡ Some u = s.1 in cc
 
+-- what is told of the whole, where nothing is told of the parts, and no name is lost
+clean_untold : (parts fs : List Flaw) → parts ≡ [] → where_clean parts fs ≡ [] → fs ≡ []
+clean_untold [] fs g h = h
+clean_untold (p ∷ ps) fs g h = let f : p ∷ ps ≡ [] = g in cc
+
+whole_untold : (m n : ℕ) (parts fs : List Flaw) → m ≡ n → parts ≡ [] → where_whole (m == n) parts fs ≡ [] → fs ≡ []
+whole_untold m n parts fs e g h = clean_untold parts fs g (subst (λ (c : Bool). where_whole c parts fs ≡ []) (eq-eqb m n e) h)
+
 -- ---- a function
 
-module _ (p : CoreProgram) (w : Walk) (pack : PackageIsReady p w) (k : Between) (types further : List NamedTy) (grown : k.names ≡ w.names ++ types) (s : t.Sig) (at1 : Place) (ss : t.Stmts) (end : Place) (o : SigOfGrammar s) (ob : BlockOfGrammar (t.BlockOf at1 ss end))
-    (names : p.names ≡ (body_of w k s (t.BlockOf at1 ss end)).walk.names ++ further) (sig_untold : sig_flaws w s ≡ []) (untold : (body_of w k s (t.BlockOf at1 ss end)).flaws ≡ []) where
+module _ (far : Option Place) (p : CoreProgram) (w : Walk) (pack : PackageIsReady p w) (k : Between) (types further : List NamedTy) (grown : k.names ≡ w.names ++ types) (at : Place) (n : Name) (s : t.Sig) (at1 : Place) (ss : t.Stmts) (end : Place) (o : SigOfGrammar s)
+    (ob : BlockOfGrammar (t.BlockOf at1 ss end)) (names : p.names ≡ (body_at far w k at n s (t.BlockOf at1 ss end)).walk.names ++ further) (sig_untold : sig_flaws w s ≡ []) (untold : (body_at far w k at n s (t.BlockOf at1 ss end)).flaws ≡ []) where
   abbrev pub v0 : Walk
   v0 = inside (at_start w k)
 
@@ -78,11 +86,15 @@ module _ (p : CoreProgram) (w : Walk) (pack : PackageIsReady p w) (k : Between) 
   abbrev pub v1 : Walk
   v1 = all_bound w (params_of s ++ results_of s) v0
 
+  -- what stands around the statements
+  abbrev pub a1 : Around
+  a1 = with_labels (t.BlockOf at1 ss end) (around_body far w at n s)
+
   abbrev pub d : Did
-  d = stmts ss (around_body w s) v1
+  d = stmts ss a1 v1
 
   added : GoesOn v1 d.walk
-  added = stmts_on ss (around_body w s) v1
+  added = stmts_on ss a1 v1
 
   bound_on : GoesOn v0 v1
   bound_on = all_bound_on w (params_of s ++ results_of s) v0
@@ -168,7 +180,7 @@ module _ (p : CoreProgram) (w : Walk) (pack : PackageIsReady p w) (k : Between) 
   scoped : Scoped p around header v1
   scoped = header_state.scoped
 
-  state : State p around header (around_body w s) v1
+  state : State p around header a1 v1
   state = record {
     ready = scoped.ready;
     before = scoped.before;
@@ -193,17 +205,28 @@ module _ (p : CoreProgram) (w : Walk) (pack : PackageIsReady p w) (k : Between) 
           by_case (inl e) = let m = contained_before k.next v1.next header x header_state.numbered e in absurd (omega arith)
           by_case (inr e) = e
 
-  -- what is told of the body
+  -- what is told of the body: of its parts, and of the whole
+  abbrev parts : List Flaw
+  parts = d.flaws ++ labels_told (t.BlockOf at1 ss end) ++ unused d.walk.declared d.walk.used
+
+  abbrev whole : List Flaw
+  whole = whole_told (around_body far w at n s) end d.core
+
   statements_untold : d.flaws ≡ []
-  statements_untold = one_of_four d.flaws (labels_told (t.BlockOf at1 ss end)) (unused d.walk.declared d.walk.used) (where_clean d.flaws (missing_return (around_body w s).results end d.core)) untold
+  statements_untold = one_of_four d.flaws (labels_told (t.BlockOf at1 ss end)) (unused d.walk.declared d.walk.used) (where_whole (d.walk.lost == v1.lost) parts whole) untold
 
   done : Done p around header v1 d
-  done = stmts_done p ss ob around (around_body w s) header v1 state holds statements_untold
+  done = stmts_done p ss ob around a1 header v1 state holds statements_untold
+
+  nothing_lost : d.walk.lost ≡ v1.lost
+  nothing_lost = let a = done.adds in a.lost
 
   ends : missing_return (Some result_tys) end d.core ≡ []
   ends =
-      let h = four_of_four d.flaws (labels_told (t.BlockOf at1 ss end)) (unused d.walk.declared d.walk.used) (where_clean d.flaws (missing_return (around_body w s).results end d.core)) untold in
-      subst (λ (r : Option Tys). missing_return r end d.core ≡ []) (ap results_typed found) (subst (λ (fs : List Flaw). where_clean fs (missing_return (around_body w s).results end d.core) ≡ []) statements_untold h)
+      let h = four_of_four d.flaws (labels_told (t.BlockOf at1 ss end)) (unused d.walk.declared d.walk.used) (where_whole (d.walk.lost == v1.lost) parts whole) untold in
+      let g = whole_untold d.walk.lost v1.lost parts whole nothing_lost (no_first parts (where_whole (d.walk.lost == v1.lost) parts whole) untold) h in
+      subst (λ (r : Option Tys). missing_return r end d.core ≡ []) (ap results_typed found)
+      (no_first (missing_return (around_body far w at n s).results end d.core) (where_clean (missing_return (around_body far w at n s).results end d.core) (far_told (around_body far w at n s).too_far)) g)
 
   terminates_by : (rs : Tys) → missing_return (Some rs) end d.core ≡ [] → (rs ≡ no_tys) ⊎ IsTrue (ends_terminating (body d.core))
   terminates_by no_tys h = inl refl
@@ -224,11 +247,11 @@ module _ (p : CoreProgram) (w : Walk) (pack : PackageIsReady p w) (k : Between) 
       by_case (inr e) = scalar_good p (get_or d.walk.vars i x).type_ e
 
   -- a function with these types
-  abbrev function_with : Place → Name → Option SigTypes → CoreFunc
-  function_with at n x = core_function at n x (body_of w k s (t.BlockOf at1 ss end))
+  abbrev function_with : Option SigTypes → CoreFunc
+  function_with x = core_function at n x (body_at far w k at n s (t.BlockOf at1 ss end))
 
-  sound_with : (at : Place) (n : Name) (id : ℕ) → (IsRowOf p id → ⊥) → SoundFunc p id (function_with at n (Some (record { params = param_tys; results = result_tys })))
-  sound_with at n id row = record {
+  sound_with : (id : ℕ) → (IsRowOf p id → ⊥) → SoundFunc p id (function_with (Some (record { params = param_tys; results = result_tys })))
+  sound_with id row = record {
     receiver = [];
     is_method = inl (refl, row);
     header = length header;
@@ -242,11 +265,11 @@ module _ (p : CoreProgram) (w : Walk) (pack : PackageIsReady p w) (k : Between) 
       front : take (length header) d.walk.vars ≡ header
       front = ap (take (length header)) added.variables_added ∙ take_front header added.variables
 
-  pub function_sound : (at : Place) (n : Name) (id : ℕ) → (IsRowOf p id → ⊥) → SoundFunc p id (function_with at n (sig_types w s))
-  function_sound at n id row = subst (λ (x : Option SigTypes). SoundFunc p id (function_with at n x)) (sym found) (sound_with at n id row)
+  pub function_sound : (id : ℕ) → (IsRowOf p id → ⊥) → SoundFunc p id (function_with (sig_types w s))
+  function_sound id row = subst (λ (x : Option SigTypes). SoundFunc p id (function_with x)) (sym found) (sound_with id row)
 
   pub function_adds : Adds p v0 d.walk
   function_adds = all_adds
 
 pub functions_are_sound : FunctionsAreSound
-functions_are_sound p w pack k types further grown s (t.BlockOf at1 ss end) o ob names h g at n id row = function_sound p w pack k types further grown s at1 ss end o ob names h g at n id row
+functions_are_sound far p w pack k types further grown at n s (t.BlockOf at1 ss end) o ob names h g id row = function_sound far p w pack k types further grown at n s at1 ss end o ob names h g id row

@@ -187,7 +187,7 @@ one_bound p a w start None (Some x) ty e s t u v h k i = subst (λ (y : Ty). Bou
   parallel = parallel_fresh x x u v h;
   header = header_fresh p a w start v x i;
   types = types_after v.vars (var_of v.next x);
-  adds = adds_var p v (fresh x v) (var_of v.next x) refl refl (subst (IsScalarType p) (sym (one_ty x ty e)) s);
+  adds = adds_var p v (fresh x v) (var_of v.next x) refl refl refl (subst (IsScalarType p) (sym (one_ty x ty e)) s);
 })
 one_bound p a w start (Some n) (Some x) ty e s t u v h k i = by_places (is_there n u) (is_there n v) (same_there n u v h) k
   where
@@ -207,7 +207,7 @@ one_bound p a w start (Some n) (Some x) ty e s t u v h k i = by_places (is_there
       parallel = parallel_named n (variable u.next x) (variable v.next x) (fresh x u) (fresh x v) (parallel_fresh x x u v h);
       header = header_named p a w start v n x scalar set i;
       types = ap types_of_vars vars ∙ types_after v.vars (var_of v.next x);
-      adds = adds_then p v (fresh x v) (with_name n (variable v.next x) (fresh x v)) (adds_var p v (fresh x v) (var_of v.next x) refl refl scalar) (adds_named p (fresh x v) n (variable v.next x));
+      adds = adds_then p v (fresh x v) (with_name n (variable v.next x) (fresh x v)) (adds_var p v (fresh x v) (var_of v.next x) refl refl refl scalar) (adds_named p (fresh x v) n (variable v.next x));
     })
 
 pub record AllBound (p : CoreProgram) (a : node.Around) (w : Walk) (start : ℕ) (ts : List Ty) (v v2 : Walk) : Type 0 where

@@ -20,14 +20,14 @@ use Rattle.go_packages.specs.Signature.{Param, and_type, types_of, params_of, re
 use Rattle.go_packages.specs.Items.{Item, constant_item, type_item, alias_item, function_item, variable_item, init_item, is_init, each_name, spec_items, constant_items, type_items, types_after, items_from}
 use Rattle.go_packages.specs.Known.{Known, outside, named_type, type_found, type_decl, alias_decl, function_decl, decl_of}
 use Rattle.go_packages.specs.Cycles.{needed, needed_bound, needed_all, needed_params, needs_of}
-use Rattle.go_packages.specs.Told.{each_told, spec_told, specs_told, types_told, main_told, number_told, function_told, decls_told}
+use Rattle.go_packages.specs.Told.{each_told, spec_told, specs_told, types_told, main_told, function_told, decls_told}
 use Rattle.go_sound.specs.SoundTyped.{HasOperators, BoundHasOperators, AllHaveOperators}
 use Rattle.go_sound.proofs.KnownWords.{AllItems}
 use Rattle.go_sound.proofs.NothingLost.{Either}
 use Rattle.go_sound.proofs.RoundsEnd.{is_unknown}
 use Rattle.go_sound.proofs.SoundBodies.{no_first, no_second, value_of, wanted_form}
 use Rattle.go_programs.specs.Grammar.{ValuesOfGrammar, TypesOfGrammar, SigOfGrammar, DeclsOfGrammar}
-use Rattle.go_programs.proofs.Words.{one_of_three, two_of_three, three_of_three}
+use Rattle.go_programs.proofs.Words.{one_of_three, two_of_three}
 use Rattle.go_programs.proofs.Here.{typed_told, value_if}
 use Rattle.go_programs.proofs.Signatures.{IsClean, AllClean, grouped_clean, results_clean}
 use Rattle.go_programs.proofs.Needed.{NoneUnknown, none_left, none_right, nodes, iota_lost, iota_callees}
@@ -114,7 +114,7 @@ module _ (k : Known) where
       by_test true e g = cc
       by_test false e g = record { no_init = e; sig_untold = no_first (sig_flaws (outside k) s) _ g; main_untold = no_second (sig_flaws (outside k) s) _ g }
 
-  pub items_fine : (j id : ℕ) (ds : List t.Decl) → DeclsOfGrammar ds → decls_told id (outside k) ds ≡ [] → AllItems (ItemFine k) (items_from j id ds)
+  pub items_fine : (j id : ℕ) (ds : List t.Decl) → DeclsOfGrammar ds → decls_told (outside k) ds ≡ [] → AllItems (ItemFine k) (items_from j id ds)
   items_fine j id [] g h = tt
   items_fine j id (t.ConstDecl at vs ∷ ds) g h =
       items_joined (ItemFine k) (constant_items 0 t.NoExpr t.NoExprs vs) (items_from j id ds) (constants_fine at 0 t.NoExpr t.NoExprs vs tt tt g.0 (no_first (specs_told at 0 (outside k) t.NoExpr t.NoExprs vs) _ h))
@@ -123,10 +123,10 @@ module _ (k : Known) where
       items_joined (ItemFine k) (type_items j ts) (items_from (types_after j ts) id ds) (types_fine j ts g.0 (no_first (types_told (outside k) ts) _ h)) (items_fine (types_after j ts) id ds g.1 (no_second (types_told (outside k) ts) _ h))
   items_fine j id (t.VarDecl at vs ∷ ds) g h = cc
   items_fine j id (t.FuncDecl at n s b ∷ ds) g h =
-      (subst (λ (c : Bool). ItemFine k (if c then init_item n else function_item n id s)) (sym f.no_init) ((g.0).0, f.sig_untold), items_fine j (suc id) ds g.1 (three_of_three (function_told at n s (outside k)) (number_told at id) (decls_told (suc id) (outside k) ds) h))
+      (subst (λ (c : Bool). ItemFine k (if c then init_item n else function_item n id s)) (sym f.no_init) ((g.0).0, f.sig_untold), items_fine j (suc id) ds g.1 (no_second (function_told at n s (outside k)) (decls_told (outside k) ds) h))
     where
       f : FunctionFine n s
-      f = function_fine at n s (one_of_three (function_told at n s (outside k)) (number_told at id) (decls_told (suc id) (outside k) ds) h)
+      f = function_fine at n s (no_first (function_told at n s (outside k)) (decls_told (outside k) ds) h)
   items_fine j id (t.MethodDecl at p rs n s b ∷ ds) g h = cc
 
   -- ---- each item is typed where what it needs is

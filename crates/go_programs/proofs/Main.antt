@@ -10,13 +10,12 @@ use Rattle.go_typing.specs.Answer.{flaw}
 use Rattle.go_packages.specs.Signature.{SigTypes, sig_types}
 use Rattle.go_packages.specs.Items.{Item, init_item, function_item, constant_items, type_items, types_after, items_from}
 use Rattle.go_packages.specs.Known.{Known, outside}
-use Rattle.go_packages.specs.Told.{is_main, takes_something, main_told, function_told, number_told, specs_told, types_told, decls_told}
+use Rattle.go_packages.specs.Told.{is_main, takes_something, main_told, function_told, specs_told, types_told, decls_told}
 use Rattle.go_packages.specs.Functions.{params_typed, results_typed, results_or_none}
-use Rattle.go_packages.specs.Checked.{known_in, between_of, functions_in, count_functions, error_function, runtime_function, main_from, program_of}
+use Rattle.go_packages.specs.Checked.{known_in, between_of, first_too_far, functions_in, count_functions, error_function, runtime_function, main_from, program_of}
 use Rattle.go_sound.proofs.KnownWords.{AllItems}
-use Rattle.go_sound.proofs.SoundBodies.{no_second}
+use Rattle.go_sound.proofs.SoundBodies.{no_first, no_second}
 use Rattle.go_programs.specs.SoundPrograms.{HasMain, MainIsPlain}
-use Rattle.go_programs.proofs.Words.{one_of_three, three_of_three}
 use Rattle.go_programs.proofs.Items.{FunctionFine, function_fine}
 use Rattle.go_programs.proofs.Scope.{no_decls_told}
 use Rattle.go_programs.proofs.Package.{FunctionAt, ItemAt, no_row, functions_at}
@@ -37,7 +36,7 @@ second_items Q [] js h = h
 second_items Q (i ∷ is) js h = second_items Q is js h.1
 
 module _ (p : CoreProgram) (f : Known) where
-  main_here : (j id : ℕ) (ds : List t.Decl) → HasMain ds → decls_told id (outside f) ds ≡ [] → AllItems (ItemAt p (outside f)) (items_from j id ds) → IsPlainFunc p (main_from id ds)
+  main_here : (j id : ℕ) (ds : List t.Decl) → HasMain ds → decls_told (outside f) ds ≡ [] → AllItems (ItemAt p (outside f)) (items_from j id ds) → IsPlainFunc p (main_from id ds)
   main_here j id [] m h a = absurd m
   main_here j id (t.ConstDecl at vs ∷ ds) m h a =
       main_here j id ds m (no_second (specs_told at 0 (outside f) t.NoExpr t.NoExprs vs) _ h) (second_items (ItemAt p (outside f)) (constant_items 0 t.NoExpr t.NoExprs vs) (items_from j id ds) a)
@@ -46,10 +45,10 @@ module _ (p : CoreProgram) (f : Known) where
   main_here j id (t.VarDecl at vs ∷ ds) m h a = cc
   main_here j id (t.MethodDecl at q rs n s b ∷ ds) m h a = cc
   main_here j id (t.FuncDecl at n s b ∷ ds) m h a =
-      by_main (is_main n) refl m (λ g. main_here j (suc id) ds g (three_of_three (function_told at n s (outside f)) (number_told at id) (decls_told (suc id) (outside f) ds) h) a.1)
+      by_main (is_main n) refl m (λ g. main_here j (suc id) ds g (no_second (function_told at n s (outside f)) (decls_told (outside f) ds) h) a.1)
     where
       fine : FunctionFine f n s
-      fine = function_fine f at n s (one_of_three (function_told at n s (outside f)) (number_told at id) (decls_told (suc id) (outside f) ds) h)
+      fine = function_fine f at n s (no_first (function_told at n s (outside f)) (decls_told (outside f) ds) h)
 
       here : FunctionAt p (outside f) id s × (IsRowOf p id → ⊥)
       here = subst (λ (c : Bool). ItemAt p (outside f) (if c then init_item n else function_item n id s)) fine.no_init a.0
@@ -68,5 +67,5 @@ module _ (p : CoreProgram) (f : Known) where
 pub main_is_plain : MainIsPlain
 main_is_plain ds h m =
     main_here (program_of ds) (known_in ds) 0 0 ds m (no_decls_told ds h)
-    (functions_at (program_of ds) (known_in ds) (count_functions ds) (no_row ds) 0 0 ds (between_of (known_in ds)) []
+    (functions_at (first_too_far ds) (program_of ds) (known_in ds) (count_functions ds) (no_row ds) 0 0 ds (between_of (known_in ds)) []
     (error_function (functions_in (known_in ds) ds).between.next ∷ runtime_function ((functions_in (known_in ds) ds).between.next + 2) ∷ []) refl refl (omega arith) (no_decls_told ds h))

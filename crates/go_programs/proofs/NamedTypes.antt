@@ -1,7 +1,9 @@
 -- The named types of a program: what each stands for is scalar, but for the predeclared `error`.
 use Rattle.std.proofs.Common.{◌≡◌, ◌⊎◌, inl, inr, ℕ, zero, suc, ◌<◌, length, List, [], ◌∷◌, ◌++◌, append_assoc, append-nil, refl, sym, subst, ap, ◌∙◌, arith, IsTrue, Option, Some, option_map, slice_get, slice_index_or, Contains}
 use Rattle.std.proofs.lemmas.List.Elements.{Contains-append_cases}
+use Rattle.gj_base.specs.declared.place.Place.{Place}
 use Rattle.go_syntax.specs.Tree as t
+use Rattle.go_syntax.specs.declared.tree.Name.{Name}
 use Rattle.go_type.specs.Tree as ty
 use Rattle.go_type.specs.Tree.{Ty, Tys}
 use Rattle.go_type.specs.Named.{NamedTy}
@@ -18,9 +20,9 @@ use Rattle.go_statements.specs.Walk.{Walk}
 use Rattle.go_packages.specs.Signature.{sig_flaws, sig_types, inside}
 use Rattle.go_packages.specs.Items.{Item, constant_item, type_item, alias_item, function_item, variable_item, init_item, items_of}
 use Rattle.go_packages.specs.Known.{Known, first_names, outside, type_found, named_by, unset, after_rounds}
-use Rattle.go_packages.specs.Told.{function_told, number_told, specs_told, types_told, decls_told}
-use Rattle.go_packages.specs.Functions.{Between, Functions, at_start, body_of, after_body, core_function, and_function, functions_from}
-use Rattle.go_packages.specs.Checked.{known_in, between_of, functions_in, told, program_of}
+use Rattle.go_packages.specs.Told.{function_told, specs_told, types_told, decls_told}
+use Rattle.go_packages.specs.Functions.{Between, Functions, at_start, around_body, after_body, function_then, functions_from}
+use Rattle.go_packages.specs.Checked.{known_in, between_of, first_too_far, functions_in, told, program_of}
 use Rattle.go_sound.specs.Lost.{NothingUnknown}
 use Rattle.go_sound.specs.GoesOn.{GoesOn}
 use Rattle.go_sound.proofs.KnownWords.{AllItems, all_items}
@@ -30,7 +32,7 @@ use Rattle.go_sound.proofs.SoundBodies.{no_first, no_second}
 use Rattle.go_sound.proofs.GoesOnBodies.{body_on}
 use Rattle.go_programs.specs.Grammar.{SigOfGrammar, BlockOfGrammar, DeclsOfGrammar}
 use Rattle.go_programs.specs.SoundFunctions.{PackageIsReady}
-use Rattle.go_programs.proofs.Words.{one_of_three, three_of_three}
+use Rattle.go_programs.proofs.Words.{body_at}
 use Rattle.go_programs.proofs.Ready.{StandsForScalar}
 use Rattle.go_programs.proofs.Functions.{function_adds}
 use Rattle.go_programs.proofs.Needed.{NoneUnknown}
@@ -102,55 +104,55 @@ module _ (ds : List t.Decl) (o : DeclsOfGrammar ds) (untold : told ds ≡ []) wh
 
 -- ---- those of bodies
 
-block_adds : (p : CoreProgram) (w : Walk) (pack : PackageIsReady p w) (k : Between) (types further : List NamedTy) (grown : k.names ≡ w.names ++ types) (s : t.Sig) (b : t.Block) → SigOfGrammar s → BlockOfGrammar b
-    → p.names ≡ (body_of w k s b).walk.names ++ further → sig_flaws w s ≡ [] → (body_of w k s b).flaws ≡ [] → (x : NamedTy) → Contains (body_of w k s b).walk.names x → Contains k.names x ⊎ StandsForScalar x
-block_adds p w pack k types further grown s (t.BlockOf at ss end) o ob names h g x c = let a = function_adds p w pack k types further grown s at ss end o ob names h g in a.stands x c
+block_adds : (far : Option Place) (p : CoreProgram) (w : Walk) (pack : PackageIsReady p w) (k : Between) (types further : List NamedTy) (grown : k.names ≡ w.names ++ types) (at : Place) (n : Name) (s : t.Sig) (b : t.Block) → SigOfGrammar s → BlockOfGrammar b
+    → p.names ≡ (body_at far w k at n s b).walk.names ++ further → sig_flaws w s ≡ [] → (body_at far w k at n s b).flaws ≡ [] → (x : NamedTy) → Contains (body_at far w k at n s b).walk.names x → Contains k.names x ⊎ StandsForScalar x
+block_adds far p w pack k types further grown at n s (t.BlockOf at1 ss end) o ob names h g x c = let a = function_adds far p w pack k types further grown at n s at1 ss end o ob names h g in a.stands x c
 
-module _ (p : CoreProgram) (f : Known) (pack : PackageIsReady p (outside f)) where
-  bodies_plain : (id : ℕ) (ds : List t.Decl) → DeclsOfGrammar ds → (k : Between) (types further : List NamedTy) → k.names ≡ f.names ++ types → p.names ≡ (functions_from (outside f) ds k).between.names ++ further
-      → decls_told id (outside f) ds ≡ [] → (functions_from (outside f) ds k).flaws ≡ [] → (x : NamedTy) → Contains (functions_from (outside f) ds k).between.names x → Contains k.names x ⊎ StandsForScalar x
-  bodies_plain id [] o k types further e n h l x c = inl c
-  bodies_plain id (t.ConstDecl at vs ∷ ds) o k types further e n h l x c = bodies_plain id ds o.1 k types further e n (no_second (specs_told at 0 (outside f) t.NoExpr t.NoExprs vs) _ h) l x c
-  bodies_plain id (t.TypeDecl at ts ∷ ds) o k types further e n h l x c = bodies_plain id ds o.1 k types further e n (no_second (types_told (outside f) ts) _ h) l x c
-  bodies_plain id (t.VarDecl at vs ∷ ds) o k types further e n h l x c = cc
-  bodies_plain id (t.MethodDecl at q rs y s b ∷ ds) o k types further e n h l x c = cc
-  bodies_plain id (t.FuncDecl at y s b ∷ ds) o k types further e n h l x c =
+module _ (far : Option Place) (p : CoreProgram) (f : Known) (pack : PackageIsReady p (outside f)) where
+  bodies_plain : (ds : List t.Decl) → DeclsOfGrammar ds → (k : Between) (types further : List NamedTy) → k.names ≡ f.names ++ types → p.names ≡ (functions_from far (outside f) ds k).between.names ++ further
+      → decls_told (outside f) ds ≡ [] → (functions_from far (outside f) ds k).flaws ≡ [] → (x : NamedTy) → Contains (functions_from far (outside f) ds k).between.names x → Contains k.names x ⊎ StandsForScalar x
+  bodies_plain [] o k types further e n h l x c = inl c
+  bodies_plain (t.ConstDecl at vs ∷ ds) o k types further e n h l x c = bodies_plain ds o.1 k types further e n (no_second (specs_told at 0 (outside f) t.NoExpr t.NoExprs vs) _ h) l x c
+  bodies_plain (t.TypeDecl at ts ∷ ds) o k types further e n h l x c = bodies_plain ds o.1 k types further e n (no_second (types_told (outside f) ts) _ h) l x c
+  bodies_plain (t.VarDecl at vs ∷ ds) o k types further e n h l x c = cc
+  bodies_plain (t.MethodDecl at q rs y s b ∷ ds) o k types further e n h l x c = cc
+  bodies_plain (t.FuncDecl at y s b ∷ ds) o k types further e n h l x c =
       by_case
-      (bodies_plain (suc id) ds o.1 (after_body (body_of (outside f) k s b)) (types ++ on.types) further (on.types_added ∙ ap (λ (ns : List NamedTy). ns ++ on.types) e ∙ append_assoc f.names types on.types) names
-      (three_of_three (function_told at y s (outside f)) (number_told at id) (decls_told (suc id) (outside f) ds) h) (no_second (body_of (outside f) k s b).flaws _ bodies) x
-      (subst (λ (r : Functions). Contains r.between.names x) same c))
+      (bodies_plain ds o.1 (after_body (body_at far (outside f) k at y s b)) (types ++ on.types) further (on.types_added ∙ ap (λ (ns : List NamedTy). ns ++ on.types) e ∙ append_assoc f.names types on.types) names
+      (no_second (function_told at y s (outside f)) (decls_told (outside f) ds) h) (no_second (body_at far (outside f) k at y s b).flaws _ bodies) x (subst (λ (r : Functions). Contains r.between.names x) same c))
     where
       fine : FunctionFine f y s
-      fine = function_fine f at y s (one_of_three (function_told at y s (outside f)) (number_told at id) (decls_told (suc id) (outside f) ds) h)
+      fine = function_fine f at y s (no_first (function_told at y s (outside f)) (decls_told (outside f) ds) h)
 
-      same : functions_from (outside f) (t.FuncDecl at y s b ∷ ds) k
-          ≡ and_function (core_function at y (sig_types (outside f) s) (body_of (outside f) k s b)) (body_of (outside f) k s b).flaws (functions_from (outside f) ds (after_body (body_of (outside f) k s b)))
-      same = and_then_functions (outside f) at y s b ds k fine.no_init
+      same : functions_from far (outside f) (t.FuncDecl at y s b ∷ ds) k ≡ function_then at y (sig_types (outside f) s) (body_at far (outside f) k at y s b) (functions_from far (outside f) ds)
+      same = and_then_functions far (outside f) at y s b ds k fine.no_init
 
-      on : GoesOn (inside (at_start (outside f) k)) (body_of (outside f) k s b).walk
-      on = body_on (outside f) k s b
+      on : GoesOn (inside (at_start (outside f) k)) (body_at far (outside f) k at y s b).walk
+      on = body_on (outside f) k s b (around_body far (outside f) at y s)
 
-      names : p.names ≡ (functions_from (outside f) ds (after_body (body_of (outside f) k s b))).between.names ++ further
+      names : p.names ≡ (functions_from far (outside f) ds (after_body (body_at far (outside f) k at y s b))).between.names ++ further
       names = n ∙ ap (λ (r : Functions). r.between.names ++ further) same
 
-      bodies : (body_of (outside f) k s b).flaws ++ (functions_from (outside f) ds (after_body (body_of (outside f) k s b))).flaws ≡ []
+      bodies : (body_at far (outside f) k at y s b).flaws ++ (functions_from far (outside f) ds (after_body (body_at far (outside f) k at y s b))).flaws ≡ []
       bodies = sym (ap (λ (r : Functions). r.flaws) same) ∙ l
 
-      more : (added : List NamedTy) × ((functions_from (outside f) ds (after_body (body_of (outside f) k s b))).between.names ≡ (body_of (outside f) k s b).walk.names ++ added)
-      more = functions_grow (outside f) ds (after_body (body_of (outside f) k s b))
+      more : (added : List NamedTy) × ((functions_from far (outside f) ds (after_body (body_at far (outside f) k at y s b))).between.names ≡ (body_at far (outside f) k at y s b).walk.names ++ added)
+      more = functions_grow far (outside f) ds (after_body (body_at far (outside f) k at y s b))
 
-      held : p.names ≡ (body_of (outside f) k s b).walk.names ++ (more.0 ++ further)
-      held = names ∙ ap (λ (ns : List NamedTy). ns ++ further) more.1 ∙ append_assoc (body_of (outside f) k s b).walk.names more.0 further
+      held : p.names ≡ (body_at far (outside f) k at y s b).walk.names ++ (more.0 ++ further)
+      held = names ∙ ap (λ (ns : List NamedTy). ns ++ further) more.1 ∙ append_assoc (body_at far (outside f) k at y s b).walk.names more.0 further
 
-      by_case : Contains (body_of (outside f) k s b).walk.names x ⊎ StandsForScalar x → Contains k.names x ⊎ StandsForScalar x
-      by_case (inl d) = block_adds p (outside f) pack k types (more.0 ++ further) e s b (o.0).0 (o.0).1 held fine.sig_untold (no_first (body_of (outside f) k s b).flaws _ bodies) x d
+      by_case : Contains (body_at far (outside f) k at y s b).walk.names x ⊎ StandsForScalar x → Contains k.names x ⊎ StandsForScalar x
+      by_case (inl d) = block_adds far p (outside f) pack k types (more.0 ++ further) e at y s b (o.0).0 (o.0).1 held fine.sig_untold (no_first (body_at far (outside f) k at y s b).flaws _ bodies) x d
       by_case (inr d) = inr d
 
 -- ---- the whole
 
 pub names_plain : (ds : List t.Decl) → DeclsOfGrammar ds → told ds ≡ [] → (x : NamedTy) → Contains (program_of ds).names x → IsPlainName x
 names_plain ds o h x c =
-    by_case (bodies_plain (program_of ds) (known_in ds) (packages_are_ready ds o h) 0 ds o (between_of (known_in ds)) [] [] (sym (append-nil (known_in ds).names)) (sym (append-nil (functions_in (known_in ds) ds).between.names)) (no_decls_told ds h) (no_bodies_told ds h) x c)
+    by_case
+    (bodies_plain (first_too_far ds) (program_of ds) (known_in ds) (packages_are_ready ds o h) ds o (between_of (known_in ds)) [] [] (sym (append-nil (known_in ds).names)) (sym (append-nil (functions_in (known_in ds) ds).between.names)) (no_decls_told ds h) (no_bodies_told ds h)
+    x c)
   where
     by_case : Contains (known_in ds).names x ⊎ StandsForScalar x → IsPlainName x
     by_case (inl d) = known_plain ds o h x d
@@ -191,5 +193,5 @@ first_kept (suc n) is = (named_by (after_rounds n is) is, refl)
 pub names_begin : (ds : List t.Decl) → (more : List NamedTy) × ((program_of ds).names ≡ first_names ++ more)
 names_begin ds =
     let r = first_kept (length (items_of ds)) (items_of ds) in
-    let g = functions_grow (outside (known_in ds)) ds (between_of (known_in ds)) in
+    let g = functions_grow (first_too_far ds) (outside (known_in ds)) ds (between_of (known_in ds)) in
     (r.0 ++ g.0, g.1 ∙ ap (λ (ns : List NamedTy). ns ++ g.0) r.1 ∙ append_assoc first_names r.0 g.0)

@@ -17,9 +17,9 @@ use Rattle.go_statements.specs.Declare.{names_count}
 use Rattle.go_packages.specs.Signature.{SigTypes, sig_types}
 use Rattle.go_packages.specs.Items.{Item, constant_item, type_item, alias_item, function_item, variable_item, init_item, is_init, each_name, spec_items, constant_items, type_items, types_after, items_from, items_of}
 use Rattle.go_packages.specs.Known.{Known, outside, function_decl, decl_of, after_rounds}
-use Rattle.go_packages.specs.Told.{function_told, number_told, specs_told, types_told, decls_told}
-use Rattle.go_packages.specs.Functions.{Between, Functions, results_typed, body_of, after_body, params_typed, results_or_none, core_function, and_function, functions_from}
-use Rattle.go_packages.specs.Checked.{known_in, between_of, functions_in, count_functions, told, error_function, runtime_function, method_at, program_of}
+use Rattle.go_packages.specs.Told.{function_told, specs_told, types_told, decls_told}
+use Rattle.go_packages.specs.Functions.{Between, Functions, results_typed, around_body, after_body, params_typed, results_or_none, core_function, function_then, functions_from}
+use Rattle.go_packages.specs.Checked.{known_in, between_of, first_too_far, functions_in, count_functions, told, error_function, runtime_function, method_at, program_of}
 use Rattle.go_sound.specs.Added.{DeclIsSet, ScopesAreSet}
 use Rattle.go_sound.specs.SoundTyped.{ScopesAreSound}
 use Rattle.go_sound.proofs.AgreeTyping.{DeclAgrees, OptionAgrees}
@@ -27,12 +27,12 @@ use Rattle.go_sound.proofs.KnownWords.{AllItems, all_items}
 use Rattle.go_sound.proofs.Numbered.{IsNumbered, items_numbered}
 use Rattle.go_sound.proofs.Grown.{IsSet, KnowsLess}
 use Rattle.go_sound.proofs.RoundsEnd.{is_unknown, chain, is_fixed}
-use Rattle.go_sound.proofs.SoundBodies.{no_second, set_again, sets_again}
+use Rattle.go_sound.proofs.SoundBodies.{no_first, no_second, set_again, sets_again}
 use Rattle.go_sound.proofs.GoesOnBodies.{body_on}
 use Rattle.go_programs.specs.Grammar.{DeclsOfGrammar}
 use Rattle.go_programs.specs.SoundFunctions.{PackageIsReady}
 use Rattle.go_programs.specs.SoundPrograms.{PackagesAreReady}
-use Rattle.go_programs.proofs.Words.{one_of_three, three_of_three}
+use Rattle.go_programs.proofs.Words.{body_at}
 use Rattle.go_programs.proofs.Items.{universe_of, items_fine, items_joined, FunctionFine, function_fine}
 use Rattle.go_programs.proofs.Scope.{no_decls_told, some_decl, names_typed}
 use Rattle.go_programs.proofs.Meaning.{p_at, is_plain, all_plain, CallsItem, rounds_ok, scopes_more}
@@ -79,50 +79,50 @@ module _ (p : CoreProgram) (w : Walk) where
   types_at j (t.MoreTypes n false e ts) = (tt, types_at (suc j) ts)
 
 -- what comes of a function that is no `init`
-pub and_then_functions : (w : Walk) (at : Place) (n : Name) (s : t.Sig) (b : t.Block) (ds : List t.Decl) (k : Between) → is_init n ≡ false
-    → functions_from w (t.FuncDecl at n s b ∷ ds) k ≡ and_function (core_function at n (sig_types w s) (body_of w k s b)) (body_of w k s b).flaws (functions_from w ds (after_body (body_of w k s b)))
-and_then_functions w at n s b ds k e =
-    ap (λ (c : Bool). if c then functions_from w ds k else and_function (core_function at n (sig_types w s) (body_of w k s b)) (body_of w k s b).flaws (functions_from w ds (after_body (body_of w k s b)))) e
+pub and_then_functions : (far : Option Place) (w : Walk) (at : Place) (n : Name) (s : t.Sig) (b : t.Block) (ds : List t.Decl) (k : Between) → is_init n ≡ false
+    → functions_from far w (t.FuncDecl at n s b ∷ ds) k ≡ function_then at n (sig_types w s) (body_at far w k at n s b) (functions_from far w ds)
+and_then_functions far w at n s b ds k e = ap (λ (c : Bool). if c then functions_from far w ds k else function_then at n (sig_types w s) (body_at far w k at n s b) (functions_from far w ds)) e
 
-pub functions_at : (p : CoreProgram) (known_ : Known) (total : ℕ) → ((j : ℕ) → j < total → IsRowOf p j → ⊥) → (j id : ℕ) (ds : List t.Decl) (k : Between) (before after : List CoreFunc) → p.funcs ≡ before ++ (functions_from (outside known_) ds k).funcs ++ after
-    → length before ≡ id → id + count_functions ds ≡ total → decls_told id (outside known_) ds ≡ [] → AllItems (ItemAt p (outside known_)) (items_from j id ds)
-functions_at p f total rows j id [] k before after e l c h = tt
-functions_at p f total rows j id (t.ConstDecl at vs ∷ ds) k before after e l c h =
-    items_joined (ItemAt p (outside f)) (constant_items 0 t.NoExpr t.NoExprs vs) (items_from j id ds) (constants_at p (outside f) 0 t.NoExpr t.NoExprs vs)
-    (functions_at p f total rows j id ds k before after e l c (no_second (specs_told at 0 (outside f) t.NoExpr t.NoExprs vs) _ h))
-functions_at p f total rows j id (t.TypeDecl at ts ∷ ds) k before after e l c h =
-    items_joined (ItemAt p (outside f)) (type_items j ts) (items_from (types_after j ts) id ds) (types_at p (outside f) j ts) (functions_at p f total rows (types_after j ts) id ds k before after e l c (no_second (types_told (outside f) ts) _ h))
-functions_at p f total rows j id (t.VarDecl at vs ∷ ds) k before after e l c h = cc
-functions_at p f total rows j id (t.FuncDecl at n s b ∷ ds) k before after e l c h = (
-  subst (λ (x : Bool). ItemAt p (outside f) (if x then init_item n else function_item n id s)) (sym fine.no_init) (here, rows id (omega arith)),
-  functions_at p f total rows j (suc id) ds (after_body (body_of (outside f) k s b)) (before ++ g ∷ []) after whole (longer before g ∙ ap suc l) (omega arith)
-      (three_of_three (function_told at n s (outside f)) (number_told at id) (decls_told (suc id) (outside f) ds) h),
-)
-  where
-    fine : FunctionFine f n s
-    fine = function_fine f at n s (one_of_three (function_told at n s (outside f)) (number_told at id) (decls_told (suc id) (outside f) ds) h)
+module _ (far : Option Place) (p : CoreProgram) (f : Known) (total : ℕ) (rows : (j : ℕ) → j < total → IsRowOf p j → ⊥) where
+  pub functions_at : (j id : ℕ) (ds : List t.Decl) (k : Between) (before after : List CoreFunc) → p.funcs ≡ before ++ (functions_from far (outside f) ds k).funcs ++ after → length before ≡ id → id + count_functions ds ≡ total
+      → decls_told (outside f) ds ≡ [] → AllItems (ItemAt p (outside f)) (items_from j id ds)
+  functions_at j id [] k before after e l c h = tt
+  functions_at j id (t.ConstDecl at vs ∷ ds) k before after e l c h =
+      items_joined (ItemAt p (outside f)) (constant_items 0 t.NoExpr t.NoExprs vs) (items_from j id ds) (constants_at p (outside f) 0 t.NoExpr t.NoExprs vs) (functions_at j id ds k before after e l c (no_second (specs_told at 0 (outside f) t.NoExpr t.NoExprs vs) _ h))
+  functions_at j id (t.TypeDecl at ts ∷ ds) k before after e l c h =
+      items_joined (ItemAt p (outside f)) (type_items j ts) (items_from (types_after j ts) id ds) (types_at p (outside f) j ts) (functions_at (types_after j ts) id ds k before after e l c (no_second (types_told (outside f) ts) _ h))
+  functions_at j id (t.VarDecl at vs ∷ ds) k before after e l c h = cc
+  functions_at j id (t.FuncDecl at n s b ∷ ds) k before after e l c h = (
+    subst (λ (x : Bool). ItemAt p (outside f) (if x then init_item n else function_item n id s)) (sym fine.no_init) (here, rows id (omega arith)),
+    functions_at j (suc id) ds (after_body (body_at far (outside f) k at n s b)) (before ++ core_function at n (sig_types (outside f) s) (body_at far (outside f) k at n s b) ∷ []) after whole
+        (longer before (core_function at n (sig_types (outside f) s) (body_at far (outside f) k at n s b)) ∙ ap suc l) (omega arith) (no_second (function_told at n s (outside f)) (decls_told (outside f) ds) h),
+  )
+    where
+      fine : FunctionFine f n s
+      fine = function_fine f at n s (no_first (function_told at n s (outside f)) (decls_told (outside f) ds) h)
 
-    g : CoreFunc
-    g = core_function at n (sig_types (outside f) s) (body_of (outside f) k s b)
+      split : p.funcs
+          ≡ before
+          ++ (core_function at n (sig_types (outside f) s) (body_at far (outside f) k at n s b) ∷ (functions_from far (outside f) ds (after_body (body_at far (outside f) k at n s b))).funcs) ++ after
+      split = subst (λ (r : List CoreFunc). p.funcs ≡ before ++ r ++ after) (ap (λ (r : Functions). r.funcs) (and_then_functions far (outside f) at n s b ds k fine.no_init)) e
 
-    rest : List CoreFunc
-    rest = (functions_from (outside f) ds (after_body (body_of (outside f) k s b))).funcs
+      here : FunctionAt p (outside f) id s
+      here = record {
+        function = core_function at n (sig_types (outside f) s) (body_at far (outside f) k at n s b);
+        found = ap (λ (fs : List CoreFunc). slice_get fs id) (split ∙ append_assoc before _ after)
+            ∙ ap (slice_get (before ++ core_function at n (sig_types (outside f) s) (body_at far (outside f) k at n s b) ∷ _)) (sym l) ∙ seam before _ _;
+        captures = refl;
+        params = refl;
+        results = refl;
+      }
 
-    split : p.funcs ≡ before ++ (core_function at n (sig_types (outside f) s) (body_of (outside f) k s b) ∷ (functions_from (outside f) ds (after_body (body_of (outside f) k s b))).funcs) ++ after
-    split = subst (λ (r : List CoreFunc). p.funcs ≡ before ++ r ++ after) (ap (λ (r : Functions). r.funcs) (and_then_functions (outside f) at n s b ds k fine.no_init)) e
-
-    here : FunctionAt p (outside f) id s
-    here = record {
-      function = core_function at n (sig_types (outside f) s) (body_of (outside f) k s b);
-      found = ap (λ (fs : List CoreFunc). slice_get fs id) (split ∙ append_assoc before _ after) ∙ ap (slice_get (before ++ core_function at n (sig_types (outside f) s) (body_of (outside f) k s b) ∷ _)) (sym l) ∙ seam before _ _;
-      captures = refl;
-      params = refl;
-      results = refl;
-    }
-
-    whole : p.funcs ≡ (before ++ core_function at n (sig_types (outside f) s) (body_of (outside f) k s b) ∷ []) ++ (functions_from (outside f) ds (after_body (body_of (outside f) k s b))).funcs ++ after
-    whole = split ∙ ap (λ (r : List CoreFunc). r ++ after) (sym (append_assoc before (core_function at n (sig_types (outside f) s) (body_of (outside f) k s b) ∷ []) (functions_from (outside f) ds (after_body (body_of (outside f) k s b))).funcs))
-functions_at p f total rows j id (t.MethodDecl at q rs n s b ∷ ds) k before after e l c h = cc
+      whole : p.funcs
+          ≡ (before ++ core_function at n (sig_types (outside f) s) (body_at far (outside f) k at n s b) ∷ [])
+          ++ (functions_from far (outside f) ds (after_body (body_at far (outside f) k at n s b))).funcs ++ after
+      whole = split
+          ∙ ap (λ (r : List CoreFunc). r ++ after)
+          (sym (append_assoc before (core_function at n (sig_types (outside f) s) (body_at far (outside f) k at n s b) ∷ []) (functions_from far (outside f) ds (after_body (body_at far (outside f) k at n s b))).funcs))
+  functions_at j id (t.MethodDecl at q rs n s b ∷ ds) k before after e l c h = cc
 
 -- ---- rows of methods
 
@@ -176,20 +176,19 @@ item_calls p k (init_item n) h = tt
 
 -- ---- named types of bodies come after those of the package
 
-pub functions_grow : (w : Walk) (ds : List t.Decl) (k : Between) → (types : List NamedTy) × ((functions_from w ds k).between.names ≡ k.names ++ types)
-functions_grow w [] k = ([], sym (append-nil k.names))
-functions_grow w (t.FuncDecl at n s b ∷ ds) k = by_test (is_init n) (functions_grow w ds k) (functions_grow w ds (after_body (body_of w k s b)))
+pub functions_grow : (far : Option Place) (w : Walk) (ds : List t.Decl) (k : Between) → (types : List NamedTy) × ((functions_from far w ds k).between.names ≡ k.names ++ types)
+functions_grow far w [] k = ([], sym (append-nil k.names))
+functions_grow far w (t.FuncDecl at n s b ∷ ds) k = by_test (is_init n) (functions_grow far w ds k) (functions_grow far w ds (after_body (body_at far w k at n s b)))
   where
-    by_test : (c : Bool) → (types : List NamedTy) × ((functions_from w ds k).between.names ≡ k.names ++ types)
-        → (types : List NamedTy) × ((functions_from w ds (after_body (body_of w k s b))).between.names ≡ (body_of w k s b).walk.names ++ types)
-        → (types : List NamedTy)
-        × ((if c then functions_from w ds k else and_function (core_function at n (sig_types w s) (body_of w k s b)) (body_of w k s b).flaws (functions_from w ds (after_body (body_of w k s b)))).between.names ≡ k.names ++ types)
+    by_test : (c : Bool) → (types : List NamedTy) × ((functions_from far w ds k).between.names ≡ k.names ++ types)
+        → (types : List NamedTy) × ((functions_from far w ds (after_body (body_at far w k at n s b))).between.names ≡ (body_at far w k at n s b).walk.names ++ types)
+        → (types : List NamedTy) × ((if c then functions_from far w ds k else function_then at n (sig_types w s) (body_at far w k at n s b) (functions_from far w ds)).between.names ≡ k.names ++ types)
     by_test true h l = h
-    by_test false h l = let g = body_on w k s b in (g.types ++ l.0, l.1 ∙ ap (λ (ns : List NamedTy). ns ++ l.0) g.types_added ∙ append_assoc k.names g.types l.0)
-functions_grow w (t.ConstDecl at vs ∷ ds) k = functions_grow w ds k
-functions_grow w (t.TypeDecl at ts ∷ ds) k = functions_grow w ds k
-functions_grow w (t.VarDecl at vs ∷ ds) k = functions_grow w ds k
-functions_grow w (t.MethodDecl at q rs n s b ∷ ds) k = functions_grow w ds k
+    by_test false h l = let g = body_on w k s b (around_body far w at n s) in (g.types ++ l.0, l.1 ∙ ap (λ (ns : List NamedTy). ns ++ l.0) g.types_added ∙ append_assoc k.names g.types l.0)
+functions_grow far w (t.ConstDecl at vs ∷ ds) k = functions_grow far w ds k
+functions_grow far w (t.TypeDecl at ts ∷ ds) k = functions_grow far w ds k
+functions_grow far w (t.VarDecl at vs ∷ ds) k = functions_grow far w ds k
+functions_grow far w (t.MethodDecl at q rs n s b ∷ ds) k = functions_grow far w ds k
 
 -- ---- types are set
 
@@ -231,7 +230,7 @@ module _ (ds : List t.Decl) (o : DeclsOfGrammar ds) (untold : told ds ≡ []) wh
   calls : AllItems (λ (i : Item). CallsItem (program_of ds) i (decl_of (known_in ds) i)) (items_of ds)
   calls =
       all_items (ItemAt (program_of ds) (outside (known_in ds))) (λ (i : Item). CallsItem (program_of ds) i (decl_of (known_in ds) i)) (λ i h. item_calls (program_of ds) (known_in ds) i h) (items_of ds)
-      (functions_at (program_of ds) (known_in ds) (count_functions ds) (no_row ds) 0 0 ds (between_of (known_in ds)) []
+      (functions_at (first_too_far ds) (program_of ds) (known_in ds) (count_functions ds) (no_row ds) 0 0 ds (between_of (known_in ds)) []
       (error_function (functions_in (known_in ds) ds).between.next ∷ runtime_function ((functions_in (known_in ds) ds).between.next + 2) ∷ []) refl refl (omega arith) (no_decls_told ds untold))
 
   pub package_scopes : (a : node.Around) → ScopesAreSound (p_at (program_of ds) (known_in ds).names) a (universe_of (known_in ds))
@@ -254,7 +253,7 @@ module _ (ds : List t.Decl) (o : DeclsOfGrammar ds) (untold : told ds ≡ []) wh
 
   package_ready : PackageIsReady (program_of ds) (outside (known_in ds))
   package_ready =
-      let types = functions_grow (outside (known_in ds)) ds (between_of (known_in ds)) in
+      let types = functions_grow (first_too_far ds) (outside (known_in ds)) ds (between_of (known_in ds)) in
       record {
         scopes = λ a. scopes_more (program_of ds) (known_in ds).names types.0 types.1 (universe_of (known_in ds)) package_scopes a;
         types_set = scopes_set;

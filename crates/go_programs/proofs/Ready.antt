@@ -1,5 +1,5 @@
 -- What must hold where a statement begins, and how it goes on.
-use Rattle.std.proofs.Common.{◌≡◌, ◌≤◌, ◌<◌, ◌⊎◌, inl, inr, ℕ, suc, List, [], ◌∷◌, ◌++◌, append_assoc, refl, sym, subst, ap, ◌∙◌, arith, IsTrue, Bool, true, false, Option, Some, None, if◌then◌else◌, bytes_eq, slice_get, Contains}
+use Rattle.std.proofs.Common.{◌≡◌, ◌≤◌, ◌<◌, ◌⊎◌, inl, inr, ℕ, suc, List, [], ◌∷◌, ◌++◌, append_assoc, refl, sym, subst, ap, ◌∙◌, arith, IsTrue, Bool, true, false, Option, Some, None, if◌then◌else◌, bytes_eq, slice_get, Contains, ◌+◌}
 use Rattle.std.proofs.lemmas.List.Elements.{Contains-append_left, Contains-push_cases}
 use Rattle.go_syntax.specs.Tree as t
 use Rattle.go_syntax.specs.declared.tree.Name.{Name}
@@ -16,8 +16,9 @@ use Rattle.go_typing.specs.Env as env
 use Rattle.go_typing.specs.Answer.{Flaw}
 use Rattle.go_typing.specs.Convert.{is_scalar}
 use Rattle.go_typing.specs.Scopes.{last_changed, with_bind}
-use Rattle.go_statements.specs.Walk.{Walk, Around, Did, did, after, also, pushed, popped, within, with_name, bind_of, fresh, var_of, noted, uses, uses_all, body}
-use Rattle.go_statements.specs.Assign.{left_uses, is_name}
+use Rattle.go_typing.specs.Uses.{names_in, names_in_all}
+use Rattle.go_statements.specs.Walk.{Walk, Around, Did, did, after, also, pushed, popped, within, with_name, bind_of, fresh, var_of, noted, is_untyped, count_untyped, with_lost, uses, uses_all, body}
+use Rattle.go_statements.specs.Assign.{left_use, left_uses, is_name, is_bare, fresh_use, fresh_uses}
 use Rattle.go_sound.specs.Added.{TypeIsSet, TypesAreSet, DeclIsSet, ScopesAreSet}
 use Rattle.go_sound.specs.GoesOn.{AreNumbered, GoesOn}
 use Rattle.go_sound.specs.Lost.{NothingUnknown}
@@ -189,33 +190,77 @@ pub record Like (w v : Walk) : Type 0 where
   pub next : v.next ≡ w.next
   pub labels : v.next_label ≡ w.next_label
   pub vars : v.vars ≡ w.vars
+  pub lost : v.lost ≡ w.lost
 
 pub like_same : (w : Walk) → Like w w
-like_same w = record { names = refl; scopes = refl; next = refl; labels = refl; vars = refl }
+like_same w = record { names = refl; scopes = refl; next = refl; labels = refl; vars = refl; lost = refl }
 
 pub like_then : (w v u : Walk) → Like w v → Like v u → Like w u
-like_then w v u h k = record { names = k.names ∙ h.names; scopes = k.scopes ∙ h.scopes; next = k.next ∙ h.next; labels = k.labels ∙ h.labels; vars = k.vars ∙ h.vars }
+like_then w v u h k = record { names = k.names ∙ h.names; scopes = k.scopes ∙ h.scopes; next = k.next ∙ h.next; labels = k.labels ∙ h.labels; vars = k.vars ∙ h.vars; lost = k.lost ∙ h.lost }
 
-pub like_uses : (e : t.Expr) (w : Walk) → Like w (uses e w)
-like_uses e w = record { names = refl; scopes = refl; next = refl; labels = refl; vars = refl }
+-- where each name is typed, none is lost
+typed_one : (o : Option Decl) → (o ≡ Some unknown → ⊥) → is_untyped o ≡ false
+typed_one (Some unknown) h = absurd (h refl)
+typed_one _ h = refl
 
-pub like_uses_all : (es : t.Exprs) (w : Walk) → Like w (uses_all es w)
-like_uses_all es w = record { names = refl; scopes = refl; next = refl; labels = refl; vars = refl }
+none_untyped : (ss : List (List Bind)) → NothingUnknown ss → (xs : List (List ℕ)) → count_untyped xs ss ≡ 0
+none_untyped ss h [] = refl
+none_untyped ss h (x ∷ xs) = by_test (is_untyped (lookup x ss)) (typed_one (lookup x ss) (h x)) (none_untyped ss h xs)
+  where
+    by_test : (c : Bool) → c ≡ false → count_untyped xs ss ≡ 0 → (if c then 1 else 0) + count_untyped xs ss ≡ 0
+    by_test true e g = let f : true ≡ false = e in cc
+    by_test false e g = omega arith
+
+none_lost : (xs : List (List ℕ)) (w : Walk) → NothingUnknown w.scopes → (with_lost xs w).lost ≡ w.lost
+none_lost xs w h = let e = none_untyped w.scopes h xs in omega arith
+
+like_lost : (xs : List (List ℕ)) (w : Walk) → NothingUnknown w.scopes → Like w (with_lost xs w)
+like_lost xs w h = record { names = refl; scopes = refl; next = refl; labels = refl; vars = refl; lost = none_lost xs w h }
+
+pub like_uses : (e : t.Expr) (w : Walk) → NothingUnknown w.scopes → Like w (uses e w)
+like_uses e w h = record { names = refl; scopes = refl; next = refl; labels = refl; vars = refl; lost = none_lost (names_in e) w h }
+
+pub like_uses_all : (es : t.Exprs) (w : Walk) → NothingUnknown w.scopes → Like w (uses_all es w)
+like_uses_all es w h = record { names = refl; scopes = refl; next = refl; labels = refl; vars = refl; lost = none_lost (names_in_all es) w h }
 
 pub like_noted : (n : Name) (w : Walk) → Like w (noted n w)
 like_noted n w = by_test (is_blank n.text)
   where
     by_test : (c : Bool) → Like w (if c then w else record w { declared = w.declared ++ n ∷ [] })
     by_test true = like_same w
-    by_test false = record { names = refl; scopes = refl; next = refl; labels = refl; vars = refl }
+    by_test false = record { names = refl; scopes = refl; next = refl; labels = refl; vars = refl; lost = refl }
 
 like_if : (w : Walk) (c : Bool) (v u : Walk) → Like w v → Like w u → Like w (if c then v else u)
 like_if w true v u h k = h
 like_if w false v u h k = k
 
-pub like_left : (es : t.Exprs) (w : Walk) → Like w (left_uses es w)
-like_left t.NoExprs w = like_same w
-like_left (t.MoreExprs e es) w = like_then w (if is_name e then w else uses e w) _ (like_if w (is_name e) w (uses e w) (like_same w) (like_uses e w)) (like_left es (if is_name e then w else uses e w))
+typed_like : (w v : Walk) → Like w v → NothingUnknown w.scopes → NothingUnknown v.scopes
+typed_like w v l h = subst NothingUnknown (sym l.scopes) h
+
+-- another use, where all is typed as before
+pub like_more : (w v u : Walk) → NothingUnknown w.scopes → Like w v → (NothingUnknown v.scopes → Like v u) → Like w u
+like_more w v u h l k = like_then w v u l (k (typed_like w v l h))
+
+like_side : (e : t.Expr) (w : Walk) → NothingUnknown w.scopes → Like w (left_use e w)
+like_side e w h = like_if w (is_name e) (with_lost (names_in e) w) (uses e w) (like_lost (names_in e) w h) (like_uses e w h)
+
+like_left : (es : t.Exprs) (w : Walk) → NothingUnknown w.scopes → Like w (left_uses es w)
+like_left t.NoExprs w h = like_same w
+like_left (t.MoreExprs e es) w h = like_more w (left_use e w) (left_uses es (left_use e w)) h (like_side e w h) (λ k. like_left es (left_use e w) k)
+
+like_fresh : (es : t.Exprs) (w : Walk) → NothingUnknown w.scopes → Like w (fresh_uses es w)
+like_fresh t.NoExprs w h = like_same w
+like_fresh (t.MoreExprs e es) w h = like_more w (fresh_use e w) (fresh_uses es (fresh_use e w)) h (like_if w (is_bare e) w (left_use e w) (like_same w) (like_side e w h)) (λ k. like_fresh es (fresh_use e w) k)
+
+-- the uses of both sides
+pub like_sides : (xs ys : t.Exprs) (w : Walk) → NothingUnknown w.scopes → Like w (uses_all ys (left_uses xs w))
+like_sides xs ys w h = like_more w (left_uses xs w) (uses_all ys (left_uses xs w)) h (like_left xs w h) (λ k. like_uses_all ys (left_uses xs w) k)
+
+pub like_fresh_sides : (xs ys : t.Exprs) (w : Walk) → NothingUnknown w.scopes → Like w (uses_all ys (fresh_uses xs w))
+like_fresh_sides xs ys w h = like_more w (fresh_uses xs w) (uses_all ys (fresh_uses xs w)) h (like_fresh xs w h) (λ k. like_uses_all ys (fresh_uses xs w) k)
+
+pub like_two : (x y : t.Expr) (w : Walk) → NothingUnknown w.scopes → Like w (uses x (uses y w))
+like_two x y w h = like_more w (uses y w) (uses x (uses y w)) h (like_uses y w h) (λ k. like_uses x (uses y w) k)
 
 types_at : (ns ms : List NamedTy) (us : Tys) → ms ≡ ns → TypesAreSet ns us → TypesAreSet ms us
 types_at ns ms us e h = subst (λ (ks : List NamedTy). TypesAreSet ks us) (sym e) h
@@ -283,19 +328,20 @@ names_of p declarable w v h = (h.further, h.names_kept)
 abbrev pub StandsForScalar : NamedTy → Type 0
 StandsForScalar x = (u : Ty) × (x.under ≡ Some u) × IsTrue (is_scalar u)
 
--- variables that are added are of scalar types, and types that are added stand for such
+-- variables that are added are of scalar types, and types that are added stand for such; no name is lost
 pub record Adds (p : CoreProgram) (w v : Walk) : Type 0 where
   pub good : (x : Var) → Contains v.vars x → Contains w.vars x ⊎ IsScalarType p x.type_
   pub stands : (x : NamedTy) → Contains v.names x → Contains w.names x ⊎ StandsForScalar x
+  pub lost : v.lost ≡ w.lost
 
-pub adds_none : (p : CoreProgram) (w v : Walk) → v.vars ≡ w.vars → v.names ≡ w.names → Adds p w v
-adds_none p w v e f = record { good = λ x c. inl (subst (λ (xs : List Var). Contains xs x) e c); stands = λ x c. inl (subst (λ (xs : List NamedTy). Contains xs x) f c) }
+pub adds_none : (p : CoreProgram) (w v : Walk) → v.vars ≡ w.vars → v.names ≡ w.names → v.lost ≡ w.lost → Adds p w v
+adds_none p w v e f l = record { lost = l; good = λ x c. inl (subst (λ (xs : List Var). Contains xs x) e c); stands = λ x c. inl (subst (λ (xs : List NamedTy). Contains xs x) f c) }
 
 pub adds_like : (p : CoreProgram) (w v : Walk) → Like w v → Adds p w v
-adds_like p w v l = adds_none p w v l.vars l.names
+adds_like p w v l = adds_none p w v l.vars l.names l.lost
 
 pub adds_then : (p : CoreProgram) (w v u : Walk) → Adds p w v → Adds p v u → Adds p w u
-adds_then p w v u h k = record { good = λ x c. var x (k.good x c); stands = λ x c. named x (k.stands x c) }
+adds_then p w v u h k = record { lost = k.lost ∙ h.lost; good = λ x c. var x (k.good x c); stands = λ x c. named x (k.stands x c) }
   where
     var : (x : Var) → Contains v.vars x ⊎ IsScalarType p x.type_ → Contains w.vars x ⊎ IsScalarType p x.type_
     var x (inl c) = h.good x c
@@ -305,15 +351,15 @@ adds_then p w v u h k = record { good = λ x c. var x (k.good x c); stands = λ 
     named x (inl c) = h.stands x c
     named x (inr s) = inr s
 
-pub adds_var : (p : CoreProgram) (w v : Walk) (y : Var) → v.vars ≡ w.vars ++ y ∷ [] → v.names ≡ w.names → IsScalarType p y.type_ → Adds p w v
-adds_var p w v y e f s = record { good = λ x c. by_case x (Contains-push_cases w.vars y x (subst (λ (xs : List Var). Contains xs x) e c)); stands = λ x c. inl (subst (λ (xs : List NamedTy). Contains xs x) f c) }
+pub adds_var : (p : CoreProgram) (w v : Walk) (y : Var) → v.vars ≡ w.vars ++ y ∷ [] → v.names ≡ w.names → v.lost ≡ w.lost → IsScalarType p y.type_ → Adds p w v
+adds_var p w v y e f l s = record { lost = l; good = λ x c. by_case x (Contains-push_cases w.vars y x (subst (λ (xs : List Var). Contains xs x) e c)); stands = λ x c. inl (subst (λ (xs : List NamedTy). Contains xs x) f c) }
   where
     by_case : (x : Var) → Contains w.vars x ⊎ (y ≡ x) → Contains w.vars x ⊎ IsScalarType p x.type_
     by_case x (inl c) = inl c
     by_case x (inr g) = inr (subst (λ (z : Var). IsScalarType p z.type_) g s)
 
-pub adds_type : (p : CoreProgram) (w v : Walk) (y : NamedTy) → v.vars ≡ w.vars → v.names ≡ w.names ++ y ∷ [] → StandsForScalar y → Adds p w v
-adds_type p w v y e f s = record { good = λ x c. inl (subst (λ (xs : List Var). Contains xs x) e c); stands = λ x c. by_case x (Contains-push_cases w.names y x (subst (λ (xs : List NamedTy). Contains xs x) f c)) }
+pub adds_type : (p : CoreProgram) (w v : Walk) (y : NamedTy) → v.vars ≡ w.vars → v.names ≡ w.names ++ y ∷ [] → v.lost ≡ w.lost → StandsForScalar y → Adds p w v
+adds_type p w v y e f l s = record { lost = l; good = λ x c. inl (subst (λ (xs : List Var). Contains xs x) e c); stands = λ x c. by_case x (Contains-push_cases w.names y x (subst (λ (xs : List NamedTy). Contains xs x) f c)) }
   where
     by_case : (x : NamedTy) → Contains w.names x ⊎ (y ≡ x) → Contains w.names x ⊎ StandsForScalar x
     by_case x (inl c) = inl c
@@ -410,7 +456,7 @@ pub done_within : (p : CoreProgram) (a : sound.Around) (vs : List Var) (b : Arou
     → Says p a vs (pushed w) (f (pushed w)) → Done p a vs w (within f w)
 done_within p a vs b w f s g n h = record {
   is_sound = h.is_sound;
-  adds = record { good = λ x c. q.good x c; stands = λ x c. q.stands x c };
+  adds = record { good = λ x c. q.good x c; stands = λ x c. q.stands x c; lost = q.lost };
   extends = h.extends;
   ready = ready_later p (at_vars a (after_vars (f (pushed w)).core vs)) w (popped (f (pushed w)).walk) g.types g.types_added (scopes_left f w g) n
       (ready_vars p a w.next vs (after_vars (f (pushed w)).core vs) w h.extends s.before s.ready);

@@ -33,20 +33,20 @@ module _ (ds : List t.Decl) (untold : told ds ≡ []) where
   abbrev k : Known
   k = known_in ds
 
-  all_parts : names_told [] (items_of ds) ++ cycle_flaws k.binds (items_of ds) ++ decls_told 0 (outside k) ds ++ (functions_in k ds).flaws ≡ []
-  all_parts = generated_none (count_functions ds) (names_told [] (items_of ds) ++ cycle_flaws k.binds (items_of ds) ++ decls_told 0 (outside k) ds ++ (functions_in k ds).flaws) untold
+  all_parts : names_told [] (items_of ds) ++ cycle_flaws k.binds (items_of ds) ++ decls_told (outside k) ds ++ (functions_in k ds).flaws ≡ []
+  all_parts = generated_none (count_functions ds) (names_told [] (items_of ds) ++ cycle_flaws k.binds (items_of ds) ++ decls_told (outside k) ds ++ (functions_in k ds).flaws) untold
 
   pub no_names_told : names_told [] (items_of ds) ≡ []
-  no_names_told = one_of_four (names_told [] (items_of ds)) (cycle_flaws k.binds (items_of ds)) (decls_told 0 (outside k) ds) (functions_in k ds).flaws all_parts
+  no_names_told = one_of_four (names_told [] (items_of ds)) (cycle_flaws k.binds (items_of ds)) (decls_told (outside k) ds) (functions_in k ds).flaws all_parts
 
   pub no_cycles_told : cycle_flaws (known_in ds).binds (items_of ds) ≡ []
-  no_cycles_told = two_of_four (names_told [] (items_of ds)) (cycle_flaws k.binds (items_of ds)) (decls_told 0 (outside k) ds) (functions_in k ds).flaws all_parts
+  no_cycles_told = two_of_four (names_told [] (items_of ds)) (cycle_flaws k.binds (items_of ds)) (decls_told (outside k) ds) (functions_in k ds).flaws all_parts
 
-  pub no_decls_told : decls_told 0 (outside (known_in ds)) ds ≡ []
-  no_decls_told = three_of_four (names_told [] (items_of ds)) (cycle_flaws k.binds (items_of ds)) (decls_told 0 (outside k) ds) (functions_in k ds).flaws all_parts
+  pub no_decls_told : decls_told (outside (known_in ds)) ds ≡ []
+  no_decls_told = three_of_four (names_told [] (items_of ds)) (cycle_flaws k.binds (items_of ds)) (decls_told (outside k) ds) (functions_in k ds).flaws all_parts
 
   pub no_bodies_told : (functions_in (known_in ds) ds).flaws ≡ []
-  no_bodies_told = four_of_four (names_told [] (items_of ds)) (cycle_flaws k.binds (items_of ds)) (decls_told 0 (outside k) ds) (functions_in k ds).flaws all_parts
+  no_bodies_told = four_of_four (names_told [] (items_of ds)) (cycle_flaws k.binds (items_of ds)) (decls_told (outside k) ds) (functions_in k ds).flaws all_parts
 
 -- ---- names in a scope that declarations fill
 

@@ -15,12 +15,13 @@ use Rattle.go_core.specs.Sound.{Gives, SoundExpr, SoundStmts}
 use Rattle.go_typing.specs.Answer.{Flaw, flaw}
 use Rattle.go_typing.specs.Operand.{constant_at}
 use Rattle.go_typing.specs.Typing.{place_of}
-use Rattle.go_statements.specs.Walk.{Walk, Around, Did, and_then, within, pushed, body, fresh, uses, uses_all}
+use Rattle.go_typing.specs.Uses.{names_in}
+use Rattle.go_statements.specs.Walk.{Walk, Around, Did, and_then, within, pushed, body, fresh, with_lost, uses, uses_all}
 use Rattle.go_statements.specs.Expressions.{value_alone, core_of, type_of, answer_in}
-use Rattle.go_statements.specs.Assign.{define, count_of, same_number, several_right, first_right, assign_by, update_left, update, left_of, one_, step_op, step, left_uses, first_place, Left, left_blank, left_place, left_wrong, miscounted}
+use Rattle.go_statements.specs.Assign.{define, count_of, same_number, several_right, first_right, assign_by, update_left, update, left_of, one_, step_op, step, left_use, left_uses, is_name, is_bare, fresh_use, fresh_uses, first_place, Left, left_blank, left_place, left_wrong, miscounted}
 use Rattle.go_statements.specs.Declare.{decl}
 use Rattle.go_statements.specs.Labels.{label_of}
-use Rattle.go_statements.specs.Statements.{called_in, expression, if_did, with_target, unlabeled, for_did, post_did, condition_uses, next_label, Clauses, falls, is_last, is_default, switch_did, stmt, maybe, block, stmts, clause_stmts, clauses, limited, spared}
+use Rattle.go_statements.specs.Statements.{called_in, expression, if_did, with_target, unlabeled, for_did, post_did, condition_uses, next_label, Clauses, falls, is_last, is_default, switch_did, stmt, maybe, block, stmts, clause_stmts, clauses, parts_typed, limited, spared}
 use Rattle.go_typing.specs.Answer.{Part}
 use Rattle.gj_base.specs.declared.kind.Op.{Op}
 use Rattle.go_sound.specs.Added.{TypeIsSet}
@@ -33,7 +34,7 @@ use Rattle.go_sound.proofs.GoesOnBodies.{performed_walk, condition_uses_on, next
 use Rattle.go_programs.specs.Grammar.{IsSimple, StmtOfGrammar, MaybeOfGrammar, BlockOfGrammar, StmtsOfGrammar, ClausesOfGrammar}
 use Rattle.go_programs.specs.SoundStatements.{Holds, StatementsAreSound}
 use Rattle.go_programs.proofs.Words.{at_vars, after_vars, one_of_three, two_of_three}
-use Rattle.go_programs.proofs.Ready.{Adds, State, Like, ready_like, adds_like, adds_then, like_left, like_uses_all, type_still, state_like, ready_around, holds_part, names_of, state_on, state_later, state_pushed, holds_inside, Done, Says, says, done_none, done_then, done_within}
+use Rattle.go_programs.proofs.Ready.{Adds, State, Like, ready_like, adds_like, adds_then, like_uses_all, type_still, state_like, ready_around, holds_part, names_of, state_on, state_later, state_pushed, holds_inside, Done, Says, says, done_none, done_then, done_within}
 use Rattle.go_programs.proofs.Here.{any_there}
 use Rattle.go_programs.proofs.Stores.{assign_done, update_done, step_done}
 use Rattle.go_programs.proofs.Defines.{alone_value, define_done, none_undeclared}
@@ -47,8 +48,20 @@ walk_if : (c : Bool) (d e : Did) (u : Walk) → d.walk ≡ u → e.walk ≡ u �
 walk_if true d e u h k = h
 walk_if false d e u h k = k
 
+if_scopes : (c : Bool) (v u w : Walk) → v.scopes ≡ w.scopes → u.scopes ≡ w.scopes → (if c then v else u).scopes ≡ w.scopes
+if_scopes true v u w h k = h
+if_scopes false v u w h k = k
+
+side_scopes : (e : t.Expr) (w : Walk) → (left_use e w).scopes ≡ w.scopes
+side_scopes e w = if_scopes (is_name e) (with_lost (names_in e) w) (uses e w) w refl refl
+
 left_scopes : (xs : t.Exprs) (w : Walk) → (left_uses xs w).scopes ≡ w.scopes
-left_scopes xs w = let l = like_left xs w in l.scopes
+left_scopes t.NoExprs w = refl
+left_scopes (t.MoreExprs e es) w = left_scopes es (left_use e w) ∙ side_scopes e w
+
+fresh_scopes : (xs : t.Exprs) (w : Walk) → (fresh_uses xs w).scopes ≡ w.scopes
+fresh_scopes t.NoExprs w = refl
+fresh_scopes (t.MoreExprs e es) w = fresh_scopes es (fresh_use e w) ∙ if_scopes (is_bare e) w (left_use e w) w refl (side_scopes e w)
 
 assign_walk : (at : Place) (w : Walk) (xs ys : t.Exprs) (o : Option Tys) (u : Walk) → (assign_by at w xs ys o u).walk ≡ u
 assign_walk at w xs ys None u = walk_if (count_of xs ys) _ (miscounted at w xs ys u) u refl refl
@@ -84,7 +97,7 @@ post_scopes (t.AStmt (t.SendStmt at xs y)) a w i = refl
 post_scopes (t.AStmt (t.IncDecStmt at xs up)) a w i = step_scopes at xs up w
 post_scopes (t.AStmt (t.AssignStmt at xs None ys)) a w i = ap (λ (v : Walk). v.scopes) (assign_walk at w xs ys (several_right w ys) (uses_all ys (left_uses xs w))) ∙ left_scopes xs w
 post_scopes (t.AStmt (t.AssignStmt at xs (Some op) ys)) a w i = update_scopes at op xs ys w
-post_scopes (t.AStmt (t.DefineStmt at xs ys)) a w i = (like_left xs w).scopes
+post_scopes (t.AStmt (t.DefineStmt at xs ys)) a w i = fresh_scopes xs w
 post_scopes (t.AStmt (t.DeclStmt at d)) a w i = absurd i
 post_scopes (t.AStmt (t.BlockStmt at b)) a w i = absurd i
 post_scopes (t.AStmt (t.IfStmt at init x b other)) a w i = absurd i
@@ -190,13 +203,13 @@ module _ (p : CoreProgram) where
       same : switch_did (t.AnExpr e) init cs w ≡ switch_at v.type_ (core_of (value_alone (init w).walk e).answer) (value_alone (init w).walk e).flaws (t.AnExpr e) init cs w
       same = tag_there e init cs w v.type_ v.has_type
 
-  limited_done : (a : node.Around) (vs : List Var) (w : Walk) (at : Place) (cs : t.Clauses) (d : Did) → Done p a vs w d → Done p a vs w (limited at cs d)
-  limited_done a vs w at cs d h = record { is_sound = h.is_sound; extends = h.extends; ready = h.ready; before = h.before; adds = h.adds }
+  limited_done : (a : node.Around) (vs : List Var) (w : Walk) (at : Place) (cs : t.Clauses) (is_typed : Walk → Bool) (d : Did) → Done p a vs w d → Done p a vs w (limited at cs is_typed d)
+  limited_done a vs w at cs is_typed d h = record { is_sound = h.is_sound; extends = h.extends; ready = h.ready; before = h.before; adds = h.adds }
 
   switch_done : (at : Place) (init : t.MaybeStmt) (x : t.MaybeExpr) (cs : t.Clauses) (a : node.Around) (b : Around) → DoneBy p a (unlabeled b) (maybe init (unlabeled b)) → BoundHasOperators x
       → ClausesBy a b (λ tag u label. clauses cs (with_target label false b) tag u 0 [] false) → DoneBy p a b (stmt (t.SwitchStmt at init x cs) b)
   switch_done at init x cs a b di o say vs w s k h =
-      limited_done a vs w at cs (within f w)
+      limited_done a vs w at cs (parts_typed b (t.SwitchStmt at init x cs) w) (within f w)
       (done_within p a vs b w f s on (names_of p a.declarable w (within f w).walk k)
       (switch_inside a b x (maybe init (unlabeled b)) (λ tag u label. clauses cs (with_target label false b) tag u 0 [] false) o di (λ v. maybe_on init (unlabeled b) v) (λ tag u label v. clauses_on cs (with_target label false b) tag u 0 [] false v) say vs (pushed w)
       (state_pushed p a vs b w s) (holds_inside p a.declarable w (f (pushed w)).walk k) (no_first (within f w).flaws _ h)))
@@ -215,7 +228,7 @@ module _ (p : CoreProgram) where
       → ClausesSay p a label vs number w (clauses (t.MoreClauses at xs ss cs) b tag (Some u) number seen had w)
   clause_says at xs ss cs o a label vs b tag u number seen had w s l i m dc rest k h =
       one_clause_says p a label vs number tag u at xs seen (is_default xs) had (falls ss && not (is_last cs)) w v (within f) (clauses cs b tag (Some u) (suc number)) (ready_around p (with_break label a) a vs w s.ready) l i m o h said
-      (λ g. rest _ _ z next (subst (λ (ns : List NamedTy). TypeIsSet ns u) (sym zon.types_added) (type_still w.names zon.types u m)) (holds_part p a.declarable w z y y (then_on w v z (uses_all_on xs w) zon) (stays y) k) g) (like_uses_all xs w)
+      (λ g. rest _ _ z next (subst (λ (ns : List NamedTy). TypeIsSet ns u) (sym zon.types_added) (type_still w.names zon.types u m)) (holds_part p a.declarable w z y y (then_on w v z (uses_all_on xs w) zon) (stays y) k) g) (like_uses_all xs w s.ready.all_typed)
     where
       v : Walk
       v = uses_all xs w
@@ -236,7 +249,7 @@ module _ (p : CoreProgram) where
       zon = within_on f v fon
 
       sv : State p (with_break label a) vs b v
-      sv = state_like p (with_break label a) vs b w v (like_uses_all xs w) s
+      sv = state_like p (with_break label a) vs b w v (like_uses_all xs w s.ready.all_typed) s
 
       held : Holds p a.declarable v z
       held = holds_part p a.declarable w v z y (uses_all_on xs w) (clauses_on cs b tag (Some u) (suc number) _ _ z) k
@@ -259,7 +272,7 @@ module _ (p : CoreProgram) where
     adds = adds_then p w d.walk (spared w d).walk h.adds (adds_like p d.walk (spared w d).walk like);
   } where
     like : Like d.walk (spared w d).walk
-    like = record { names = refl; scopes = refl; next = refl; labels = refl; vars = refl }
+    like = record { names = refl; scopes = refl; next = refl; labels = refl; vars = refl; lost = refl }
 
   before_spared : (a : node.Around) (w : Walk) (d : Did) → Holds p a.declarable w (spared w d).walk → Holds p a.declarable w d.walk
   before_spared a w d k = record { variables = k.variables; further = k.further; names_kept = k.names_kept }

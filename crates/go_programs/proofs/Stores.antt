@@ -24,7 +24,7 @@ use Rattle.go_sound.specs.SoundValues.{IsReady}
 use Rattle.go_sound.proofs.NothingLost.{paren_known}
 use Rattle.go_sound.proofs.SoundBodies.{no_first, no_second, known_where_untold}
 use Rattle.go_programs.proofs.Words.{at_vars, extends_same, one_of_three, two_of_three, three_of_three}
-use Rattle.go_programs.proofs.Ready.{State, Like, like_then, like_uses, like_uses_all, like_left, ready_like, before_like, adds_like, Done}
+use Rattle.go_programs.proofs.Ready.{State, Like, like_uses, ready_like, before_like, adds_like, Done, like_sides, like_two}
 use Rattle.go_programs.proofs.Here.{Here, here, constant_here, operator_here, operator_known, wanted_here, value_there, any_there, never_told, never_told_after, AreSeveralHere, several_there}
 
 pub and_first : (b c : Bool) → (b && c) ≡ true → b ≡ true
@@ -216,7 +216,7 @@ module _ (p : CoreProgram) (a : node.Around) (vs : List Var) (b : Around) (w : W
 
   pub assign_done : (at : Place) (xs ys : t.Exprs) → AllHaveOperators ys → (assign at xs ys w).flaws ≡ [] → Done p a vs w (assign at xs ys w)
   assign_done at xs ys q h =
-      assign_by_done at xs ys (uses_all ys (left_uses xs w)) (like_then w (left_uses xs w) (uses_all ys (left_uses xs w)) (like_left xs w) (like_uses_all ys (left_uses xs w))) q (several_right w ys) refl h
+      assign_by_done at xs ys (uses_all ys (left_uses xs w)) (like_sides xs ys w s.ready.all_typed) q (several_right w ys) refl h
 
   -- ---- `x op= y` and `x++`
 
@@ -252,7 +252,7 @@ module _ (p : CoreProgram) (a : node.Around) (vs : List Var) (b : Around) (w : W
 
   pub update_done : (at : Place) (op : Op) (xs ys : t.Exprs) → AllHaveOperators xs → IsTrue (is_binary op) → AllHaveOperators ys → (update at op xs ys w).flaws ≡ [] → Done p a vs w (update at op xs ys w)
   update_done at op (t.MoreExprs x t.NoExprs) (t.MoreExprs y t.NoExprs) o i q h =
-      update_left_done at op x (record { place = place_of y; answer = answer_in w y }) (flaws_in w y) (uses x (uses y w)) (like_then w (uses y w) (uses x (uses y w)) (like_uses y w) (like_uses x (uses y w))) o.0 i
+      update_left_done at op x (record { place = place_of y; answer = answer_in w y }) (flaws_in w y) (uses x (uses y w)) (like_two x y w s.ready.all_typed) o.0 i
       (here p (at_vars a vs) w s.ready y q.0) (λ e. known_where_untold p (at_vars a vs) w s.ready y e) (left_of w x) refl h
   update_done at op t.NoExprs ys o i q h = absurd (no_count at t.NoExprs ys w h)
   update_done at op (t.MoreExprs x (t.MoreExprs z zs)) ys o i q h = absurd (no_count at (t.MoreExprs x (t.MoreExprs z zs)) ys w h)
@@ -265,6 +265,6 @@ module _ (p : CoreProgram) (a : node.Around) (vs : List Var) (b : Around) (w : W
 
   pub step_done : (at : Place) (xs : t.Exprs) (up : Bool) → AllHaveOperators xs → (step at xs up w).flaws ≡ [] → Done p a vs w (step at xs up w)
   step_done at (t.MoreExprs x t.NoExprs) up o h =
-      update_left_done at (step_op up) x (one_ at) [] (uses x w) (like_uses x w) o.0 (step_binary up) (constant_here p (at_vars a vs) w s.ready (form.Int (pos 1))) (λ e. refl) (left_of w x) refl h
+      update_left_done at (step_op up) x (one_ at) [] (uses x w) (like_uses x w s.ready.all_typed) o.0 (step_binary up) (constant_here p (at_vars a vs) w s.ready (form.Int (pos 1))) (λ e. refl) (left_of w x) refl h
   step_done at t.NoExprs up o h = absurd (never_told p (at_vars a vs) w s.ready t.NoExprs (flaw at 84) h)
   step_done at (t.MoreExprs x (t.MoreExprs y ys)) up o h = absurd (never_told p (at_vars a vs) w s.ready (t.MoreExprs x (t.MoreExprs y ys)) (flaw at 84) h)

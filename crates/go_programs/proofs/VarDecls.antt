@@ -20,6 +20,7 @@ use Rattle.go_sound.specs.Added.{TypeIsSet, TypesAreSet}
 use Rattle.go_sound.specs.GoesOn.{GoesOn}
 use Rattle.go_sound.specs.SoundTyped.{HasOperators, AllHaveOperators, BoundHasOperators, IsScalarType, AreScalarTypes}
 use Rattle.go_sound.specs.SoundValues.{IsReady}
+use Rattle.go_sound.specs.Lost.{NothingUnknown}
 use Rattle.go_sound.proofs.SoundWords.{scalar_good}
 use Rattle.go_sound.proofs.SoundBodies.{no_first, no_second}
 use Rattle.go_sound.proofs.GoesOnSteps.{stays, variable_on}
@@ -27,7 +28,7 @@ use Rattle.go_sound.proofs.GoesOnBodies.{zero_on, each_on, types_on, parts_used,
 use Rattle.go_programs.specs.Grammar.{IsTypedOrValued, VarsOfGrammar}
 use Rattle.go_programs.specs.SoundStatements.{Holds}
 use Rattle.go_programs.proofs.Words.{at_vars, after_vars, extends_var}
-use Rattle.go_programs.proofs.Ready.{State, Like, like_same, like_then, like_uses, like_uses_all, holds_part, Done, done_none, done_then, state_on, Scoped, scoped_like, done_scoped, done_also, done_like}
+use Rattle.go_programs.proofs.Ready.{State, Like, like_same, like_uses, like_uses_all, holds_part, Done, done_none, done_then, state_on, Scoped, scoped_like, done_scoped, done_also, done_like, like_more}
 use Rattle.go_programs.proofs.Here.{SpecHere, spec_there, value_there, any_there, never_told_with, spec_is_known, AreSeveralHere, several_there}
 use Rattle.go_programs.proofs.Defines.{At, at_state, DefinedHere, TypesHere, Others, OthersOf, defined_none, types_none, new_here, types_new, alone_value, stored_done, call_here, IsCall, right_call, scoped_variable, held_variable, variable_names, adds_variable}
 
@@ -130,12 +131,12 @@ zero_done p a u c (n ∷ ns) vs w s h k m = by_place (λ us v i j l g. zero_done
         next : Scoped p a (var_of w.next u ∷ vs) (with_variable n u w)
         next = scoped_variable p a vs w n u c s h
 
-like_type : (u : t.MaybeExpr) (w : Walk) → Like w (type_uses u w)
-like_type t.NoExpr w = like_same w
-like_type (t.AnExpr e) w = like_uses e w
+like_type : (u : t.MaybeExpr) (w : Walk) → NothingUnknown w.scopes → Like w (type_uses u w)
+like_type t.NoExpr w h = like_same w
+like_type (t.AnExpr e) w h = like_uses e w h
 
-pub like_parts : (ys : t.Exprs) (u : t.MaybeExpr) (w : Walk) → Like w (uses_all ys (type_uses u w))
-like_parts ys u w = like_then w (type_uses u w) (uses_all ys (type_uses u w)) (like_type u w) (like_uses_all ys (type_uses u w))
+pub like_parts : (ys : t.Exprs) (u : t.MaybeExpr) (w : Walk) → NothingUnknown w.scopes → Like w (uses_all ys (type_uses u w))
+like_parts ys u w h = like_more w (type_uses u w) (uses_all ys (type_uses u w)) h (like_type u w h) (λ k. like_uses_all ys (type_uses u w) k)
 
 -- ---- a specification
 
@@ -196,7 +197,7 @@ module _ (p : CoreProgram) (a : node.Around) (vs : List Var) (b : Around) (w : W
       → Done p a vs w (var_spec at ns x ys w)
   spec_done at ns x ys v o q k h =
       done_also p a vs w (spec_type_flaws w x) (var_values at w (spec_type w x) ns ys (uses_all ys (type_uses x w)))
-      (values_done at x ns ys (uses_all ys (type_uses x w)) (like_parts ys x w) v q (spec_there p (at_vars a vs) w st.ready x o (no_first (spec_type_flaws w x) _ h)) held (no_second (spec_type_flaws w x) _ h))
+      (values_done at x ns ys (uses_all ys (type_uses x w)) (like_parts ys x w st.ready.all_typed) v q (spec_there p (at_vars a vs) w st.ready x o (no_first (spec_type_flaws w x) _ h)) held (no_second (spec_type_flaws w x) _ h))
     where
       held : Holds p a.declarable (uses_all ys (type_uses x w)) (var_spec at ns x ys w).walk
       held = holds_part p a.declarable w (uses_all ys (type_uses x w)) (var_spec at ns x ys w).walk (var_spec at ns x ys w).walk (parts_used ys x w) (stays (var_spec at ns x ys w).walk) k

@@ -1,7 +1,8 @@
 -- A package of which nothing is told, and that has a function `main`, is a program that has a meaning.
-use Rattle.std.proofs.Common.{◌≡◌, ◌≤◌, ◌<◌, ℕ, zero, suc, ◌+◌, length, List, [], ◌∷◌, ◌++◌, refl, sym, subst, ap, ◌∙◌, arith, Bool, true, false, Some, None, if◌then◌else◌, nat_lt, slice_get, slice_index_or, All}
+use Rattle.std.proofs.Common.{◌≡◌, ◌≤◌, ◌<◌, ℕ, zero, suc, ◌+◌, length, List, [], ◌∷◌, ◌++◌, refl, sym, subst, ap, ◌∙◌, arith, Bool, true, false, Option, Some, None, if◌then◌else◌, nat_lt, slice_get, slice_index_or, All}
 use Rattle.std.proofs.Math.Dec.{nltb→le}
 use Rattle.std.specs.Prelude.{T, not}
+use Rattle.gj_base.specs.declared.place.Place.{Place}
 use Rattle.go_syntax.specs.Tree as t
 use Rattle.go_core.specs.CoreTree.{CoreFunc, PackageRow}
 use Rattle.go_core.specs.SoundProgram.{SoundFunc, Imports, LeadsToPackage, at_once, through, SoundPackage, Sound}
@@ -9,14 +10,14 @@ use Rattle.go_typing.specs.Answer.{Flaw, flaw}
 use Rattle.go_packages.specs.Items.{items_of}
 use Rattle.go_packages.specs.Known.{Known, outside}
 use Rattle.go_packages.specs.Cycles.{cycle_flaws}
-use Rattle.go_packages.specs.Told.{function_told, number_told, specs_told, types_told, decls_told, names_told}
-use Rattle.go_packages.specs.Functions.{Between, Functions, body_of, after_body, functions_from}
-use Rattle.go_packages.specs.Checked.{known_in, between_of, functions_in, first_byte, count_functions, or_generated, told, error_function, runtime_function, program_of}
-use Rattle.go_sound.proofs.SoundBodies.{no_second}
+use Rattle.go_packages.specs.Told.{function_told, specs_told, types_told, decls_told, names_told}
+use Rattle.go_packages.specs.Functions.{Between, Functions, after_body, functions_from}
+use Rattle.go_packages.specs.Checked.{known_in, between_of, functions_in, first_byte, first_too_far, count_functions, or_generated, told, error_function, runtime_function, program_of}
+use Rattle.go_sound.proofs.SoundBodies.{no_first, no_second}
 use Rattle.go_sound.proofs.GoesOnBodies.{variables_differ}
 use Rattle.go_programs.specs.Grammar.{DeclsOfGrammar}
 use Rattle.go_programs.specs.SoundPrograms.{HasMain, ProgramsAreSound}
-use Rattle.go_programs.proofs.Words.{one_of_three, three_of_three}
+use Rattle.go_programs.proofs.Words.{body_at}
 use Rattle.go_programs.proofs.Items.{FunctionFine, function_fine}
 use Rattle.go_programs.proofs.Scope.{no_decls_told}
 use Rattle.go_programs.proofs.Package.{and_then_functions}
@@ -27,18 +28,18 @@ use Rattle.go_programs.proofs.Generated.{error_sound, runtime_sound, rows_sound,
 
 -- ---- how many functions there are
 
-counted : (f : Known) (id : ℕ) (ds : List t.Decl) (k : Between) → decls_told id (outside f) ds ≡ [] → length (functions_from (outside f) ds k).funcs ≡ count_functions ds
-counted f id [] k h = refl
-counted f id (t.ConstDecl at vs ∷ ds) k h = counted f id ds k (no_second (specs_told at 0 (outside f) t.NoExpr t.NoExprs vs) _ h)
-counted f id (t.TypeDecl at ts ∷ ds) k h = counted f id ds k (no_second (types_told (outside f) ts) _ h)
-counted f id (t.VarDecl at vs ∷ ds) k h = cc
-counted f id (t.MethodDecl at q rs n s b ∷ ds) k h = cc
-counted f id (t.FuncDecl at n s b ∷ ds) k h =
-    ap (λ (r : Functions). length r.funcs) (and_then_functions (outside f) at n s b ds k fine.no_init)
-    ∙ ap suc (counted f (suc id) ds (after_body (body_of (outside f) k s b)) (three_of_three (function_told at n s (outside f)) (number_told at id) (decls_told (suc id) (outside f) ds) h))
+counted : (far : Option Place) (f : Known) (ds : List t.Decl) (k : Between) → decls_told (outside f) ds ≡ [] → length (functions_from far (outside f) ds k).funcs ≡ count_functions ds
+counted far f [] k h = refl
+counted far f (t.ConstDecl at vs ∷ ds) k h = counted far f ds k (no_second (specs_told at 0 (outside f) t.NoExpr t.NoExprs vs) _ h)
+counted far f (t.TypeDecl at ts ∷ ds) k h = counted far f ds k (no_second (types_told (outside f) ts) _ h)
+counted far f (t.VarDecl at vs ∷ ds) k h = cc
+counted far f (t.MethodDecl at q rs n s b ∷ ds) k h = cc
+counted far f (t.FuncDecl at n s b ∷ ds) k h =
+    ap (λ (r : Functions). length r.funcs) (and_then_functions far (outside f) at n s b ds k fine.no_init)
+    ∙ ap suc (counted far f ds (after_body (body_at far (outside f) k at n s b)) (no_second (function_told at n s (outside f)) (decls_told (outside f) ds) h))
   where
     fine : FunctionFine f n s
-    fine = function_fine f at n s (one_of_three (function_told at n s (outside f)) (number_told at id) (decls_told (suc id) (outside f) ds) h)
+    fine = function_fine f at n s (no_first (function_told at n s (outside f)) (decls_told (outside f) ds) h)
 
 two_more : (fs : List CoreFunc) (e r : CoreFunc) → length (fs ++ e ∷ r ∷ []) ≡ suc (suc (length fs))
 two_more [] e r = refl
@@ -99,11 +100,11 @@ module _ (ds : List t.Decl) where
 
 module _ (ds : List t.Decl) (o : DeclsOfGrammar ds) (untold : told ds ≡ []) where
   number : length (functions_in (known_in ds) ds).funcs ≡ count_functions ds
-  number = counted (known_in ds) 0 ds (between_of (known_in ds)) (no_decls_told ds untold)
+  number = counted (first_too_far ds) (known_in ds) ds (between_of (known_in ds)) (no_decls_told ds untold)
 
   few : length (program_of ds).funcs ≤ 65535
   few =
-      let l = few_enough (count_functions ds) (names_told [] (items_of ds) ++ cycle_flaws (known_in ds).binds (items_of ds) ++ decls_told 0 (outside (known_in ds)) ds ++ (functions_in (known_in ds) ds).flaws) untold in
+      let l = few_enough (count_functions ds) (names_told [] (items_of ds) ++ cycle_flaws (known_in ds).binds (items_of ds) ++ decls_told (outside (known_in ds)) ds ++ (functions_in (known_in ds) ds).flaws) untold in
       let e = two_more (functions_in (known_in ds) ds).funcs (error_function (functions_in (known_in ds) ds).between.next) (runtime_function ((functions_in (known_in ds) ds).between.next + 2)) in
       let n = number in
       omega arith

@@ -1,5 +1,8 @@
 -- Statements one after the other, and the variables that they leave in scope.
-use Rattle.std.proofs.Common.{◌≡◌, ◌≤◌, ◌<◌, ◌==◌, ℕ, List, [], ◌∷◌, ◌++◌, refl, sym, subst, ap, ◌∙◌, arith, Bool, true, false, Some, if◌then◌else◌, ne_eqb, eq-eqb, Contains}
+use Rattle.std.proofs.Common.{◌≡◌, ◌≤◌, ◌<◌, ◌==◌, ℕ, List, [], ◌∷◌, ◌++◌, refl, sym, subst, ap, ◌∙◌, arith, Bool, true, false, Option, Some, if◌then◌else◌, ne_eqb, eq-eqb, Contains}
+use Rattle.gj_base.specs.declared.place.Place.{Place}
+use Rattle.go_syntax.specs.Tree as t
+use Rattle.go_syntax.specs.declared.tree.Name.{Name}
 use Rattle.go_type.specs.Tree.{Ty}
 use Rattle.go_core.specs.CoreTree as core
 use Rattle.go_core.specs.CoreTree.{Var, CoreProgram}
@@ -7,7 +10,8 @@ use Rattle.go_core.specs.TypeOf.{var_type}
 use Rattle.go_core.specs.SoundNode as sound
 use Rattle.go_core.specs.Sound.{after_stmt, SoundStmts}
 use Rattle.go_typing.specs.Answer.{Flaw}
-use Rattle.go_statements.specs.Walk.{body}
+use Rattle.go_statements.specs.Walk.{Walk, Did, body}
+use Rattle.go_packages.specs.Functions.{Between, around_body, body_of}
 use Rattle.go_sound.proofs.SoundBodies.{no_first, no_second}
 
 -- ---- variables in scope
@@ -77,6 +81,12 @@ newest v vs = ap (λ (b : Bool). if b then Some v.type_ else var_type v.id vs) (
 
 pub contains_first : (x : ℕ) (xs : List ℕ) → Contains (x ∷ xs) x
 contains_first x xs = (0, omega arith, refl)
+
+-- ---- functions
+
+-- what comes of the body of the function that stands there
+abbrev pub body_at : Option Place → Walk → Between → Place → Name → t.Sig → t.Block → Did
+body_at far w k at n s b = body_of w k s b (around_body far w at n s)
 
 -- ---- nothing is told of several
 

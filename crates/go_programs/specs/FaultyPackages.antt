@@ -19,7 +19,7 @@ use Rattle.go_packages.specs.Signature.{SigTypes, sig_flaws, sig_types, params_o
 use Rattle.go_packages.specs.Items.{is_init, items_of}
 use Rattle.go_packages.specs.Known.{outside}
 use Rattle.go_packages.specs.Functions.{Between, body_of, after_body, at_start, around_body}
-use Rattle.go_packages.specs.Checked.{known_in, between_of, first_byte, count_functions, told}
+use Rattle.go_packages.specs.Checked.{known_in, between_of, first_byte, first_too_far, count_functions, told}
 use Rattle.go_packages.specs.Told.{is_main, takes_something, decls_told}
 use Rattle.go_programs.specs.FaultyNames.{SomeNameFault, SomeCircle}
 use Rattle.go_programs.specs.FaultyStatements.{HasBodyFault}
@@ -87,45 +87,39 @@ abbrev pub HasFunctionFault : Place → Name → t.Sig → Walk → (is_init : B
 HasFunctionFault at n s w true f = f ≡ flaw at 0
 HasFunctionFault at n s w false f = IsIn f (sig_flaws w s) ⊎ HasMainFault n (sig_types w s) f
 
--- own: there are at most so many functions (79)
-abbrev pub IsTooFar : Place → ℕ → Flaw → Type 0
-IsTooFar at id f = (id ≡ 65535) × (f ≡ flaw at 79)
+-- ---- declarations
 
--- ---- declarations, with the number of the next function
-
-abbrev pub HasDeclFault : ℕ → Walk → t.Decl → Flaw → Type 0
-HasDeclFault id w (t.ConstDecl at vs) f = SomeSpecFault at 0 w t.NoExpr t.NoExprs vs f
-HasDeclFault id w (t.TypeDecl at ts) f = SomeTypeFault w ts f
+abbrev pub HasDeclFault : Walk → t.Decl → Flaw → Type 0
+HasDeclFault w (t.ConstDecl at vs) f = SomeSpecFault at 0 w t.NoExpr t.NoExprs vs f
+HasDeclFault w (t.TypeDecl at ts) f = SomeTypeFault w ts f
 -- package variables and methods are not built yet
-HasDeclFault id w (t.VarDecl at vs) f = f ≡ flaw at 0
-HasDeclFault id w (t.FuncDecl at n s b) f = HasFunctionFault at n s w (is_init n) f ⊎ IsTooFar at id f
-HasDeclFault id w (t.MethodDecl at p rs n s b) f = (f ≡ flaw at 0) ⊎ IsTooFar at id f
+HasDeclFault w (t.VarDecl at vs) f = f ≡ flaw at 0
+HasDeclFault w (t.FuncDecl at n s b) f = HasFunctionFault at n s w (is_init n) f
+HasDeclFault w (t.MethodDecl at p rs n s b) f = f ≡ flaw at 0
 
-abbrev pub next_function : t.Decl → ℕ → ℕ
-next_function (t.FuncDecl at n s b) id = suc id
-next_function (t.MethodDecl at p rs n s b) id = suc id
-next_function d id = id
-
-abbrev pub SomeDeclFault : ℕ → Walk → List t.Decl → Flaw → Type 0
-SomeDeclFault id w [] f = ⊥
-SomeDeclFault id w (d ∷ ds) f = HasDeclFault id w d f ⊎ SomeDeclFault (next_function d id) w ds f
+abbrev pub SomeDeclFault : Walk → List t.Decl → Flaw → Type 0
+SomeDeclFault w [] f = ⊥
+SomeDeclFault w (d ∷ ds) f = HasDeclFault w d f ⊎ SomeDeclFault w ds f
 
 abbrev pub DeclsToldExactly : Type 0
-DeclsToldExactly = (id : ℕ) (w : Walk) (ds : List t.Decl) (f : Flaw) → IsIn f (decls_told id w ds) ↔ SomeDeclFault id w ds f
+DeclsToldExactly = (w : Walk) (ds : List t.Decl) (f : Flaw) → IsIn f (decls_told w ds) ↔ SomeDeclFault w ds f
 
 -- ---- bodies, and the whole
 
--- k: what is known before the first of these, its named types and the number of the next variable
-abbrev pub SomeBodyFault : Walk → List t.Decl → Between → Flaw → Type 0
-SomeBodyFault w [] k f = ⊥
-SomeBodyFault w (t.FuncDecl at n s b ∷ ds) k f = ((is_init n ≡ false) × HasBodyFault b (around_body w s) (all_bound w (params_of s ++ results_of s) (inside (at_start w k))) f) ⊎ SomeBodyFault w ds (if is_init n then k else after_body (body_of w k s b)) f
-SomeBodyFault w (d ∷ ds) k f = SomeBodyFault w ds k f
+-- far: where the first function stands that is one too many; k: what is known before the first of these, its named types and
+-- the number of the next variable
+abbrev pub SomeBodyFault : Option Place → Walk → List t.Decl → Between → Flaw → Type 0
+SomeBodyFault far w [] k f = ⊥
+SomeBodyFault far w (t.FuncDecl at n s b ∷ ds) k f =
+    ((is_init n ≡ false) × HasBodyFault b (around_body far w at n s) (all_bound w (params_of s ++ results_of s) (inside (at_start w k))) f)
+    ⊎ SomeBodyFault far w ds (if is_init n then k else after_body (body_of w k s b (around_body far w at n s))) f
+SomeBodyFault far w (d ∷ ds) k f = SomeBodyFault far w ds k f
 
 -- a faulty name, declaration or body
 abbrev pub HasPackageFault : List t.Decl → Flaw → Type 0
 HasPackageFault ds f =
-    ((SomeNameFault (items_of ds) f ⊎ SomeCircle (outside (known_in ds)).scopes (items_of ds) f) ⊎ SomeDeclFault 0 (outside (known_in ds)) ds f)
-    ⊎ SomeBodyFault (outside (known_in ds)) ds (between_of (known_in ds)) f
+    ((SomeNameFault (items_of ds) f ⊎ SomeCircle (outside (known_in ds)).scopes (items_of ds) f) ⊎ SomeDeclFault (outside (known_in ds)) ds f)
+    ⊎ SomeBodyFault (first_too_far ds) (outside (known_in ds)) ds (between_of (known_in ds)) f
 
 -- own: where nothing else is told, the generated functions count too (79)
 abbrev pub ToldExactly : Type 0

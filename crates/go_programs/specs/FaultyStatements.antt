@@ -16,7 +16,7 @@ use Rattle.go_statements.specs.Expressions.{value_alone, condition}
 use Rattle.go_statements.specs.Assign.{assign, update, step, define, undeclared}
 use Rattle.go_statements.specs.Declare.{decl}
 use Rattle.go_statements.specs.Labels.{label_of, labels_told}
-use Rattle.go_statements.specs.Statements.{expression, unlabeled, with_target, next_label, condition_uses, post_did, tag_of, case_answer, case_constant, repeated, and_constant, case_tests, falls, is_last, is_default, returned, branch, stmt, maybe, block, stmts, clause_stmts, many_told, missing_return, function_body}
+use Rattle.go_statements.specs.Statements.{expression, unlabeled, with_target, next_label, condition_uses, post_did, tag_of, case_answer, case_constant, repeated, and_constant, case_tests, falls, is_last, is_default, returned, branch, stmt, maybe, block, stmts, clause_stmts, many_told, parts_typed, whole_told, with_labels, function_body}
 
 abbrev pub HasConditionFault : Walk → t.MaybeExpr → Flaw → Type 0
 HasConditionFault w t.NoExpr f = ⊥
@@ -43,9 +43,9 @@ SomeCaseFault w tag u (t.MoreExprs x xs) seen f =
     ((HasFault w.names w.scopes x f ⊎ IsIn f (own (case_answer w tag u x))) ⊎ ((repeated (case_constant w u x) seen ≡ true) × (f ≡ flaw (place_of x) 92)))
     ⊎ SomeCaseFault w tag u xs (and_constant (case_constant w u x) seen) f
 
--- a part of a `switch`, or where no part is faulty the whole, which has too many clauses (76)
-abbrev pub PartOrWhole : (Flaw → Type 0) → Place → t.Clauses → Flaw → Type 0
-PartOrWhole Part at cs f = Part f ⊎ (((g : Flaw) → Part g → ⊥) × IsIn f (many_told at cs))
+-- a part of a `switch`, or where all parts are typed the whole, which has too many clauses (76)
+abbrev pub PartOrWhole : (Flaw → Type 0) → Place → t.Clauses → (is_typed : Bool) → Flaw → Type 0
+PartOrWhole Part at cs is_typed f = Part f ⊎ (((g : Flaw) → Part g → ⊥) × IsIn f (many_told at cs is_typed))
 
 abbrev mutual
   -- the statement itself, or one in it
@@ -72,7 +72,7 @@ abbrev mutual
       PartOrWhole (λ g.
       (HasMaybeFault init (unlabeled a) (pushed w) g ⊎ HasTagFault (maybe init (unlabeled a) (pushed w)).walk x g)
       ⊎ HasClausesFault cs (with_target (condition_uses x (maybe init (unlabeled a) (pushed w)).walk).next_label false a) (condition_uses x (maybe init (unlabeled a) (pushed w)).walk).next (tag_of (maybe init (unlabeled a) (pushed w)).walk x).type_ 0 [] false
-      (next_label (fresh (tag_type (tag_of (maybe init (unlabeled a) (pushed w)).walk x).type_) (condition_uses x (maybe init (unlabeled a) (pushed w)).walk))) g) at cs f
+      (next_label (fresh (tag_type (tag_of (maybe init (unlabeled a) (pushed w)).walk x).type_) (condition_uses x (maybe init (unlabeled a) (pushed w)).walk))) g) at cs (parts_typed a (t.SwitchStmt at init x cs) w (stmt (t.SwitchStmt at init x cs) a w).walk) f
   HasStmtFault (t.TypeSwitchStmt at init n x cs) a w f = f ≡ flaw at 0
   HasStmtFault (t.SelectStmt at cs) a w f = f ≡ flaw at 0
   HasStmtFault (t.GoStmt at x) a w f = f ≡ flaw at 0
@@ -108,11 +108,23 @@ abbrev mutual
       ⊎ HasClauseFault (falls ss && not (is_last cs)) ss a (pushed (uses_all xs w)) f)
       ⊎ HasClausesFault cs a tag u (suc number) (case_tests w tag u number xs seen).seen (is_default xs || had) (within (clause_stmts (falls ss && not (is_last cs)) ss a) (uses_all xs w)).walk f
 
--- of a function's body: a faulty statement or label, an unused variable, or where no statement is faulty an end without `return`
+-- a part of a function's body: a faulty statement or label, or an unused variable
+abbrev pub HasPartFault : t.Block → Around → Walk → Flaw → Type 0
+HasPartFault (t.BlockOf at ss end) a w f =
+    (HasStmtsFault ss (with_labels (t.BlockOf at ss end) a) w f ⊎ IsIn f (labels_told (t.BlockOf at ss end)))
+    ⊎ IsIn f (unused (stmts ss (with_labels (t.BlockOf at ss end) a) w).walk.declared (stmts ss (with_labels (t.BlockOf at ss end) a) w).walk.used)
+
+-- the declaration of each name that the body uses or assigns is typed
+abbrev pub UsesTyped : t.Block → Around → Walk → Type 0
+UsesTyped (t.BlockOf at ss end) a w = (stmts ss (with_labels (t.BlockOf at ss end) a) w).walk.lost ≡ w.lost
+
+-- of a function as a whole: an end without `return` (87), or else that there are too many (79)
+abbrev pub HasWholeFault : t.Block → Around → Walk → Flaw → Type 0
+HasWholeFault (t.BlockOf at ss end) a w f = IsIn f (whole_told a end (stmts ss (with_labels (t.BlockOf at ss end) a) w).core)
+
+-- of a function's body: a part, or where all parts are typed the whole
 abbrev pub HasBodyFault : t.Block → Around → Walk → Flaw → Type 0
-HasBodyFault (t.BlockOf at ss end) a w f =
-    ((HasStmtsFault ss a w f ⊎ IsIn f (labels_told (t.BlockOf at ss end))) ⊎ IsIn f (unused (stmts ss a w).walk.declared (stmts ss a w).walk.used))
-    ⊎ (((g : Flaw) → HasStmtsFault ss a w g → ⊥) × IsIn f (missing_return a.results end (stmts ss a w).core))
+HasBodyFault b a w f = HasPartFault b a w f ⊎ (((g : Flaw) → HasPartFault b a w g → ⊥) × UsesTyped b a w × HasWholeFault b a w f)
 
 abbrev pub StatementsToldExactly : Type 0
 StatementsToldExactly = (s : t.Stmt) (a : Around) (w : Walk) (f : Flaw) → IsIn f (stmt s a w).flaws ↔ HasStmtFault s a w f

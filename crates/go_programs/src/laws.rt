@@ -80,8 +80,9 @@ pub fn statements_told()
     ensures exact { StatementsToldExactly }
 {}
 
-/// Of a function's body exactly the faults of its statements and labels are told, its unused
-/// variables, and where no statement is faulty an end without `return`.
+/// Of a function's body exactly the faults of its statements and labels are told and its unused
+/// variables, and where there are none and what it uses of outside is typed, an end without
+/// `return`, or else that there are too many functions.
 pub fn bodies_told()
     ensures exact { BodiesToldExactly }
 {}

@@ -2,3 +2,4 @@ mod Steps
 mod ParamLemmas
 mod KnownLemmas
 mod SigLemmas
+mod EntryLemmas

@@ -4,6 +4,7 @@
 //! declarations". The definitions stand in go_packages (`specs/Signature.antt`).
 #![tactic(auto)]
 
+pub mod entry;
 pub mod known;
 pub mod signature;
 pub mod types;

@@ -19,4 +19,11 @@ ResultsBelow n (Some is) = IdsBelow n is.now
 
 -- what may be left, and the label before the statement, stand apart
 abbrev pub around_of : List Ty → Around → List go.Target → Option (List ℕ) → go.Around
-around_of ts a gs label = record { results = results_of ts a.results; named_results = a.named; targets = gs; label = label }
+around_of ts a gs label = record {
+  results = results_of ts a.results;
+  named_results = a.named;
+  targets = gs;
+  label = label;
+  wrong_labels = a.wrong_labels.now;
+  too_far = a.too_far;
+}

@@ -15,17 +15,17 @@ use Rattle.go_typing.specs.Answer.{Answer, value, does, wrong, untyped_part}
 use Rattle.go_typing.specs.Typing.{Callee, a_function, a_built_in, by_value, place_of}
 use Rattle.go_statements.specs.Walk.{Walk, Around, Did, pushed, within, with_name, is_there, fresh, uses, uses_all}
 use Rattle.go_statements.specs.Expressions.{answer_in}
-use Rattle.go_statements.specs.Assign.{first_right, several_right, same_number, define, left_uses}
+use Rattle.go_statements.specs.Assign.{first_right, several_right, same_number, define, fresh_uses}
 use Rattle.go_statements.specs.Declare.{SpecType, lost_type, spec_type, type_uses, declare_one, var_each, zero_type, var_zero, spec_or, var_types, names_count, names_number, var_call, var_by, var_values, var_spec, var_specs, counting, constant_value, declare_constant, const_each, const_unknown, const_spec, const_specs, is_bare, new_named, declare_type, type_spec, type_specs, decl}
 use Rattle.go_statements.specs.Labels.{label_of}
-use Rattle.go_statements.specs.Statements.{performed, called_in, expression, if_did, condition_uses, for_did, next_label, unlabeled, with_target, post_did, Clauses, one_clause, switch_did, is_empty, returned_call, returned_by, returned_to, returned_in, branch_did, branch, innermost, target_named, falls, is_last, is_default, case_tests, Tests, count_types, stmt, maybe, block, stmts, clause_stmts, clauses, function_body, spared}
+use Rattle.go_statements.specs.Statements.{performed, called_in, expression, if_did, condition_uses, for_did, next_label, unlabeled, with_target, post_did, Clauses, one_clause, switch_did, is_empty, returned_call, returned_by, returned_to, returned_in, branch_did, branch, innermost, target_named, falls, is_last, is_default, case_tests, Tests, count_types, stmt, maybe, block, stmts, clause_stmts, clauses, with_labels, function_body, spared}
 use Rattle.go_packages.specs.Signature.{Param, bound, bound_name, all_bound, inside, params_of, results_of, type_of_param, sig_types}
 use Rattle.go_packages.specs.Items.{is_init}
 use Rattle.go_packages.specs.Known.{outside}
-use Rattle.go_packages.specs.Functions.{Between, at_start, around_body, body_of, after_body, core_function, and_function, functions_from}
-use Rattle.go_packages.specs.Checked.{known_in, between_of, functions_in, error_function, runtime_function, program_of}
+use Rattle.go_packages.specs.Functions.{Between, at_start, around_body, body_of, after_body, function_then, functions_from}
+use Rattle.go_packages.specs.Checked.{known_in, between_of, first_too_far, functions_in, error_function, runtime_function, program_of}
 use Rattle.go_sound.specs.GoesOn.{AreNumbered, GoesOn, StatementsGoOn, BlocksLeaveScopes, VariablesDiffer}
-use Rattle.go_sound.proofs.GoesOnSteps.{stays, then_on, did_if, named_on, fresh_on, used_on, uses_on, uses_all_on, and_on, scopes_left, within_on, assign_on, update_on, step_on, new_on, define_on, one_after, left_on}
+use Rattle.go_sound.proofs.GoesOnSteps.{stays, then_on, did_if, named_on, fresh_on, used_on, uses_on, uses_all_on, and_on, scopes_left, within_on, assign_on, update_on, step_on, new_on, define_on, one_after, fresh_sides_on}
 
 -- ---- variables
 
@@ -194,7 +194,7 @@ for_on x init post inner w h k l =
     (then_on (post (condition_uses x (init w).walk)).walk (next_label (post (condition_uses x (init w).walk)).walk) _ (next_label_on (post (condition_uses x (init w).walk)).walk) (l w.next_label _))))
 
 pub post_on : (s : t.MaybeStmt) (post : Walk → Did) (w : Walk) → ((v : Walk) → GoesOn v (post v).walk) → GoesOn w (post_did s post w).walk
-post_on (t.AStmt (t.DefineStmt at xs ys)) post w h = then_on w (left_uses xs w) _ (left_on xs w) (uses_all_on ys (left_uses xs w))
+post_on (t.AStmt (t.DefineStmt at xs ys)) post w h = then_on w (fresh_uses xs w) _ (fresh_sides_on xs w) (uses_all_on ys (fresh_uses xs w))
 post_on _ post w h = h w
 
 pub switch_on : (x : t.MaybeExpr) (init : Walk → Did) (inner : ℕ → Option Ty → ℕ → Walk → Clauses) (w : Walk) → ((v : Walk) → GoesOn v (init v).walk) → ((i : ℕ) (u : Option Ty) (j : ℕ) (v : Walk) → GoesOn v (inner i u j v).walk)
@@ -302,30 +302,33 @@ all_bound_on w [] v = stays v
 all_bound_on w (q ∷ ps) v = then_on v (bound q.name (type_of_param w q) v) _ (bound_on q.name (type_of_param w q) v) (all_bound_on w ps (bound q.name (type_of_param w q) v))
 
 pub function_body_on : (b : t.Block) (a : Around) (w : Walk) → GoesOn w (function_body b a w).walk
-function_body_on (t.BlockOf at ss end) a w = stmts_on ss a w
+function_body_on (t.BlockOf at ss end) a w = stmts_on ss (with_labels (t.BlockOf at ss end) a) w
 
-pub body_on : (w : Walk) (k : Between) (s : t.Sig) (b : t.Block) → GoesOn (inside (at_start w k)) (body_of w k s b).walk
-body_on w k s b =
+pub body_on : (w : Walk) (k : Between) (s : t.Sig) (b : t.Block) (a : Around) → GoesOn (inside (at_start w k)) (body_of w k s b a).walk
+body_on w k s b a =
     then_on (inside (at_start w k)) (all_bound w (params_of s ++ results_of s) (inside (at_start w k))) _ (all_bound_on w (params_of s ++ results_of s) (inside (at_start w k)))
-    (function_body_on b (around_body w s) (all_bound w (params_of s ++ results_of s) (inside (at_start w k))))
+    (function_body_on b a (all_bound w (params_of s ++ results_of s) (inside (at_start w k))))
 
-pub body_numbered : (w : Walk) (k : Between) (s : t.Sig) (b : t.Block) → AreNumbered k.next (body_of w k s b).walk.vars (body_of w k s b).walk.next
-body_numbered w k s b = let g = body_on w k s b in subst (λ (vs : List Var). AreNumbered k.next vs (body_of w k s b).walk.next) (sym g.variables_added) g.numbered
+pub body_numbered : (w : Walk) (k : Between) (s : t.Sig) (b : t.Block) (a : Around) → AreNumbered k.next (body_of w k s b a).walk.vars (body_of w k s b a).walk.next
+body_numbered w k s b a = let g = body_on w k s b a in subst (λ (vs : List Var). AreNumbered k.next vs (body_of w k s b a).walk.next) (sym g.variables_added) g.numbered
 
-pub functions_numbered : (w : Walk) (ds : List t.Decl) (k : Between) → AreNumbered k.next (flat_map func_vars (functions_from w ds k).funcs) (functions_from w ds k).between.next
-functions_numbered w [] k = refl
-functions_numbered w (t.FuncDecl at n s b ∷ ds) k = by_test (is_init n) (functions_numbered w ds k) (functions_numbered w ds (after_body (body_of w k s b)))
+pub functions_numbered : (far : Option Place) (w : Walk) (ds : List t.Decl) (k : Between) → AreNumbered k.next (flat_map func_vars (functions_from far w ds k).funcs) (functions_from far w ds k).between.next
+functions_numbered far w [] k = refl
+functions_numbered far w (t.FuncDecl at n s b ∷ ds) k =
+    by_test (is_init n) (functions_numbered far w ds k) (functions_numbered far w ds (after_body (body_of w k s b (around_body far w at n s)))) (body_numbered w k s b (around_body far w at n s))
   where
-    by_test : (c : Bool) → AreNumbered k.next (flat_map func_vars (functions_from w ds k).funcs) (functions_from w ds k).between.next
-        → AreNumbered (body_of w k s b).walk.next (flat_map func_vars (functions_from w ds (after_body (body_of w k s b))).funcs) (functions_from w ds (after_body (body_of w k s b))).between.next
-        → AreNumbered k.next (flat_map func_vars (if c then functions_from w ds k else and_function (core_function at n (sig_types w s) (body_of w k s b)) (body_of w k s b).flaws (functions_from w ds (after_body (body_of w k s b)))).funcs)
-        (if c then functions_from w ds k else and_function (core_function at n (sig_types w s) (body_of w k s b)) (body_of w k s b).flaws (functions_from w ds (after_body (body_of w k s b)))).between.next
-    by_test true h l = h
-    by_test false h l = one_after k.next (body_of w k s b).walk.next _ (body_of w k s b).walk.vars _ (body_numbered w k s b) l
-functions_numbered w (t.ConstDecl at vs ∷ ds) k = functions_numbered w ds k
-functions_numbered w (t.TypeDecl at ts ∷ ds) k = functions_numbered w ds k
-functions_numbered w (t.VarDecl at vs ∷ ds) k = functions_numbered w ds k
-functions_numbered w (t.MethodDecl at q rs n s b ∷ ds) k = functions_numbered w ds k
+    by_test : (c : Bool) → AreNumbered k.next (flat_map func_vars (functions_from far w ds k).funcs) (functions_from far w ds k).between.next
+        → AreNumbered (body_of w k s b (around_body far w at n s)).walk.next (flat_map func_vars (functions_from far w ds (after_body (body_of w k s b (around_body far w at n s)))).funcs)
+        (functions_from far w ds (after_body (body_of w k s b (around_body far w at n s)))).between.next
+        → AreNumbered k.next (body_of w k s b (around_body far w at n s)).walk.vars (body_of w k s b (around_body far w at n s)).walk.next
+        → AreNumbered k.next (flat_map func_vars (if c then functions_from far w ds k else function_then at n (sig_types w s) (body_of w k s b (around_body far w at n s)) (functions_from far w ds)).funcs)
+        (if c then functions_from far w ds k else function_then at n (sig_types w s) (body_of w k s b (around_body far w at n s)) (functions_from far w ds)).between.next
+    by_test true h l g = h
+    by_test false h l g = one_after k.next (body_of w k s b (around_body far w at n s)).walk.next _ (body_of w k s b (around_body far w at n s)).walk.vars _ g l
+functions_numbered far w (t.ConstDecl at vs ∷ ds) k = functions_numbered far w ds k
+functions_numbered far w (t.TypeDecl at ts ∷ ds) k = functions_numbered far w ds k
+functions_numbered far w (t.VarDecl at vs ∷ ds) k = functions_numbered far w ds k
+functions_numbered far w (t.MethodDecl at q rs n s b ∷ ds) k = functions_numbered far w ds k
 
 pub flat_append : (fs gs : List CoreFunc) → flat_map func_vars (fs ++ gs) ≡ flat_map func_vars fs ++ flat_map func_vars gs
 flat_append [] gs = refl
@@ -354,4 +357,4 @@ numbers_differ k m vs h i j d l r e =
     omega arith
 
 pub variables_differ : VariablesDiffer
-variables_differ ds = numbers_differ 0 _ (all_vars (program_of ds)) (program_numbered (functions_in (known_in ds) ds).funcs (functions_in (known_in ds) ds).between.next (functions_numbered (outside (known_in ds)) ds (between_of (known_in ds))))
+variables_differ ds = numbers_differ 0 _ (all_vars (program_of ds)) (program_numbered (functions_in (known_in ds) ds).funcs (functions_in (known_in ds) ds).between.next (functions_numbered (first_too_far ds) (outside (known_in ds)) ds (between_of (known_in ds))))

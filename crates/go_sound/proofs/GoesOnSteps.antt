@@ -10,8 +10,9 @@ use Rattle.go_core.specs.CoreTree.{Var}
 use Rattle.go_typing.specs.Env.{Decl, Bind, is_blank}
 use Rattle.go_typing.specs.Answer.{Flaw, Part}
 use Rattle.go_typing.specs.Scopes.{last_changed, without_last}
-use Rattle.go_statements.specs.Walk.{Walk, Did, and_then, pushed, within, with_name, is_there, fresh, noted, with_variable, with_unknown, with_uses, uses, uses_all}
-use Rattle.go_statements.specs.Assign.{Left, left_blank, left_place, left_wrong, left_uses, is_name, call_assigned, several_right, first_right, same_number, count_of, assign_by, assign, update_left, update, step, Fresh, new_name, old_name, blank_name, no_name, Defined, with_new, define_new, define_one, fresh_of, define_each, define_flaws, define_type_new, define_type, define_types, with_unknown_new, with_fresh, unknown_names, define_call, define_by, define}
+use Rattle.go_typing.specs.Uses.{names_in}
+use Rattle.go_statements.specs.Walk.{Walk, Did, and_then, pushed, within, with_name, is_there, fresh, noted, with_variable, with_unknown, with_lost, with_uses, uses, uses_all}
+use Rattle.go_statements.specs.Assign.{Left, left_blank, left_place, left_wrong, left_use, left_uses, is_name, is_bare, fresh_use, fresh_uses, call_assigned, several_right, first_right, same_number, count_of, assign_by, assign, update_left, update, step, Fresh, new_name, old_name, blank_name, no_name, Defined, with_new, define_new, define_one, fresh_of, define_each, define_flaws, define_type_new, define_type, define_types, with_unknown_new, with_fresh, unknown_names, define_call, define_by, define}
 use Rattle.go_sound.specs.GoesOn.{AreNumbered, GoesOn}
 
 -- ---- on and on
@@ -127,9 +128,15 @@ within_on f w h = record {
 
 -- ---- assignments
 
+pub lost_on : (xs : List (List ℕ)) (w : Walk) → GoesOn w (with_lost xs w)
+lost_on xs w = scopes_changed w (with_lost xs w) refl refl refl refl refl
+
+pub side_on : (e : t.Expr) (w : Walk) → GoesOn w (left_use e w)
+side_on e w = walk_if w (is_name e) (with_lost (names_in e) w) (uses e w) (lost_on (names_in e) w) (uses_on e w)
+
 pub left_on : (es : t.Exprs) (w : Walk) → GoesOn w (left_uses es w)
 left_on t.NoExprs w = stays w
-left_on (t.MoreExprs e es) w = then_on w (if is_name e then w else uses e w) _ (walk_if w (is_name e) w (uses e w) (stays w) (uses_on e w)) (left_on es (if is_name e then w else uses e w))
+left_on (t.MoreExprs e es) w = then_on w (left_use e w) _ (side_on e w) (left_on es (left_use e w))
 
 pub call_assigned_on : (at : Place) (w : Walk) (xs : t.Exprs) (y : t.Expr) (us : Tys) (v u : Walk) → GoesOn v u → GoesOn v (call_assigned at w xs y us u).walk
 call_assigned_on at w xs y us v u h = did_if v (same_number xs us) _ _ h h
@@ -156,6 +163,13 @@ step_on at t.NoExprs up w = uses_all_on t.NoExprs w
 step_on at (t.MoreExprs x (t.MoreExprs y ys)) up w = uses_all_on (t.MoreExprs x (t.MoreExprs y ys)) w
 
 -- ---- short declarations
+
+pub fresh_side_on : (e : t.Expr) (w : Walk) → GoesOn w (fresh_use e w)
+fresh_side_on e w = walk_if w (is_bare e) w (left_use e w) (stays w) (side_on e w)
+
+pub fresh_sides_on : (es : t.Exprs) (w : Walk) → GoesOn w (fresh_uses es w)
+fresh_sides_on t.NoExprs w = stays w
+fresh_sides_on (t.MoreExprs e es) w = then_on w (fresh_use e w) _ (fresh_side_on e w) (fresh_sides_on es (fresh_use e w))
 
 pub new_on : (n : Name) (o : Option Ty) (w : Walk) → GoesOn w (with_new n o w)
 new_on n None w = unknown_on n w
@@ -213,4 +227,4 @@ define_by_on at w fs xs ys None u = did_if u (count_of xs ys) _ _ (define_each_o
 define_by_on at w fs xs ys (Some us) u = define_call_on at w fs xs (first_right ys (t.NameExpr at [])) us u
 
 pub define_on : (at : Place) (xs ys : t.Exprs) (w : Walk) → GoesOn w (define at xs ys w).walk
-define_on at xs ys w = then_on w (uses_all ys (left_uses xs w)) _ (then_on w (left_uses xs w) _ (left_on xs w) (uses_all_on ys (left_uses xs w))) (define_by_on at w (define_flaws at w xs ys) xs ys (several_right w ys) (uses_all ys (left_uses xs w)))
+define_on at xs ys w = then_on w (uses_all ys (fresh_uses xs w)) _ (then_on w (fresh_uses xs w) _ (fresh_sides_on xs w) (uses_all_on ys (fresh_uses xs w))) (define_by_on at w (define_flaws at w xs ys) xs ys (several_right w ys) (uses_all ys (fresh_uses xs w)))

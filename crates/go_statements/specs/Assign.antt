@@ -15,7 +15,8 @@ use Rattle.go_typing.specs.Answer.{Flaw, flaw, Answer, is_known, own, Part}
 use Rattle.go_typing.specs.Operand.{untyped_constant}
 use Rattle.go_typing.specs.Wanted.{wanted}
 use Rattle.go_typing.specs.Typing.{place_of, operator_row}
-use Rattle.go_statements.specs.Walk.{Walk, Did, faulty, is_there, with_variable, with_unknown, uses, uses_all}
+use Rattle.go_typing.specs.Uses.{names_in}
+use Rattle.go_statements.specs.Walk.{Walk, Did, faulty, is_there, with_variable, with_unknown, with_lost, uses, uses_all}
 use Rattle.go_statements.specs.Expressions.{Valued, answer_in, flaws_in, value_at, value_alone, core_of, type_of, several_types}
 
 -- ---- left sides
@@ -54,10 +55,13 @@ is_name (t.NameExpr at x) = true
 is_name (t.ParenExpr at e) = is_name e
 is_name _ = false
 
--- own: a variable that is the whole of a left side isn't used there
+-- own: a variable that is the whole of a left side isn't used there; whether its declaration is typed counts
+abbrev pub left_use : t.Expr → Walk → Walk
+left_use e w = if is_name e then with_lost (names_in e) w else uses e w
+
 abbrev pub left_uses : t.Exprs → Walk → Walk
 left_uses t.NoExprs w = w
-left_uses (t.MoreExprs e es) w = left_uses es (if is_name e then w else uses e w)
+left_uses (t.MoreExprs e es) w = left_uses es (left_use e w)
 
 -- ---- `xs = ys`
 
@@ -209,6 +213,18 @@ fresh_by at x (Some p) = old_name (t.NameExpr at x)
 abbrev pub fresh_of : Walk → t.Expr → Fresh
 fresh_of w (t.NameExpr at x) = if is_blank x then blank_name else fresh_by at x (is_there (name_of at x) w)
 fresh_of w e = no_name (place_of e)
+
+abbrev pub is_bare : t.Expr → Bool
+is_bare (t.NameExpr at x) = true
+is_bare _ = false
+
+-- own: a name on the left isn't used. It is declared there, or it stands in the same scope, where its own declaration counts.
+abbrev pub fresh_use : t.Expr → Walk → Walk
+fresh_use e w = if is_bare e then w else left_use e w
+
+abbrev pub fresh_uses : t.Exprs → Walk → Walk
+fresh_uses t.NoExprs w = w
+fresh_uses (t.MoreExprs e es) w = fresh_uses es (fresh_use e w)
 
 -- names that stand twice on the left (82), and what is no name (83)
 abbrev pub is_in : List ℕ → List (List ℕ) → Bool
@@ -371,8 +387,8 @@ define_by at w fs xs ys None u = if count_of xs ys then defined_did fs (define_e
 define_by at w fs xs ys (Some tys) u = define_call at w fs xs (first_right ys (t.NameExpr at [])) tys u
 
 abbrev pub define : Place → t.Exprs → t.Exprs → Walk → Did
-define at xs ys w = define_by at w (define_flaws at w xs ys) xs ys (several_right w ys) (uses_all ys (left_uses xs w))
+define at xs ys w = define_by at w (define_flaws at w xs ys) xs ys (several_right w ys) (uses_all ys (fresh_uses xs w))
 
 -- where no short declaration may stand (83) its names are declared nowhere
 abbrev pub undeclared : Place → t.Exprs → t.Exprs → Walk → Did
-undeclared at xs ys w = faulty (sides_told (flaw (first_place xs at) 83) w (names_flaws w [] xs) xs ys) (uses_all ys (left_uses xs w))
+undeclared at xs ys w = faulty (sides_told (flaw (first_place xs at) 83) w (names_flaws w [] xs) xs ys) (uses_all ys (fresh_uses xs w))

@@ -31,10 +31,10 @@ spec ns u xs vs = t.MoreValues ns u (exprs xs) vs
 
 -- the variables of the rows of expressions are declared outside; the function's own scope is empty
 abbrev pub start : Walk
-start = record { names = names; scopes = universe None ∷ declared ∷ [] ∷ []; next = 20; next_label = 0; vars = []; declared = []; used = [] }
+start = record { names = names; scopes = universe None ∷ declared ∷ [] ∷ []; next = 20; next_label = 0; vars = []; declared = []; used = []; lost = 0 }
 
 abbrev pub around : Tys → Around
-around rs = record { results = Some rs; named_results = false; targets = []; label = None }
+around rs = record { results = Some rs; named_results = false; targets = []; label = None; wrong_labels = []; too_far = None }
 
 -- in a function with these results
 -- so many clauses `case b:`, before the others

@@ -62,6 +62,16 @@ pub record RowsControl : Type 0 where
   pub as_many_clauses : told (block 0 ((t.SwitchStmt (at 2) t.NoStmt t.NoExpr (clauses_like 1000 t.NoClauses)) ∷ []) 30) ≡ []
   pub too_many_clauses : told (block 0 ((t.SwitchStmt (at 2) t.NoStmt t.NoExpr (clauses_like 1001 t.NoClauses)) ∷ []) 30) ≡ fault 2 76 ∷ []
   pub too_many_clauses_around_a_fault : told (block 0 ((t.SwitchStmt (at 2) t.NoStmt t.NoExpr (clauses_like 1000 (clause 20 (name (codes "x") 25 ∷ []) [] t.NoClauses))) ∷ []) 30) ≡ named_fault 25 50 (codes "x") ∷ []
+  -- with 1001 clauses, one of them `case b: x := 4`, then `case b: L: ;`, then `case lost:`
+  pub too_many_clauses_around_an_unused_name : told (block 0 ((t.SwitchStmt (at 2) t.NoStmt t.NoExpr (clauses_like 1000 (clause 20 (name (codes "b") 25 ∷ []) ((t.DefineStmt (at 28) (exprs ((name (codes "x") 28) ∷ [])) (exprs ((num (codes "4") 33) ∷ []))) ∷ []) t.NoClauses))) ∷ []) 37) ≡ named_fault 28 80 (codes "x") ∷ []
+  pub too_many_clauses_around_an_unused_label : told (block 0 ((t.SwitchStmt (at 2) t.NoStmt t.NoExpr (clauses_like 1000 (clause 20 (name (codes "b") 25 ∷ []) ((t.LabeledStmt (at 28) (id (codes "L") 28) (t.EmptyStmt (at 31))) ∷ []) t.NoClauses))) ∷ []) 35) ≡ named_fault 28 90 (codes "L") ∷ []
+  pub too_many_clauses_around_a_lost_name : told (block 0 ((t.SwitchStmt (at 2) t.NoStmt t.NoExpr (clauses_like 1000 (clause 20 (name (codes "lost") 25 ∷ []) [] t.NoClauses))) ∷ []) 33) ≡ []
+  -- with 1001 clauses, one of them `case b: lost = 4`
+  pub too_many_clauses_around_a_lost_left_side : told (block 0 ((t.SwitchStmt (at 2) t.NoStmt t.NoExpr (clauses_like 1000 (clause 20 (name (codes "b") 25 ∷ []) ((t.AssignStmt (at 28) (exprs ((name (codes "lost") 28) ∷ [])) None (exprs ((num (codes "4") 35) ∷ []))) ∷ []) t.NoClauses))) ∷ []) 39) ≡ []
+  -- `{ x := lost; switch { case b: .. case b: x = 4 }; println(x) }`, with 1001 clauses
+  pub too_many_clauses_around_an_untyped_left_side : told (block 0 ((t.DefineStmt (at 2) (exprs ((name (codes "x") 2) ∷ [])) (exprs ((name (codes "lost") 7) ∷ []))) ∷ (t.SwitchStmt (at 13) t.NoStmt t.NoExpr (clauses_like 1000 (clause 40 (name (codes "b") 45 ∷ []) ((t.AssignStmt (at 48) (exprs ((name (codes "x") 48) ∷ [])) None (exprs ((num (codes "4") 52) ∷ []))) ∷ []) t.NoClauses))) ∷ (t.ExprStmt (at 57) (exprs ((call (name (codes "println") 57) ((name (codes "x") 65) ∷ [])) ∷ []))) ∷ []) 68) ≡ []
+  -- `{ x := 4; L: ; println(lost); switch { case b: .. } }`, with 1001 clauses
+  pub too_many_clauses_after_all_of_these : told (block 0 ((t.DefineStmt (at 2) (exprs ((name (codes "x") 2) ∷ [])) (exprs ((num (codes "4") 7) ∷ []))) ∷ (t.LabeledStmt (at 10) (id (codes "L") 10) (t.EmptyStmt (at 13))) ∷ (t.ExprStmt (at 15) (exprs ((call (name (codes "println") 15) ((name (codes "lost") 23) ∷ [])) ∷ []))) ∷ (t.SwitchStmt (at 30) t.NoStmt t.NoExpr (clauses_like 1001 t.NoClauses)) ∷ []) 58) ≡ fault 30 76 ∷ named_fault 10 90 (codes "L") ∷ named_fault 2 80 (codes "x") ∷ []
   -- `{ switch i { case x: case 4, 4: } }`
   pub repeated_after_another_fault : told (block 0 ((t.SwitchStmt (at 2) t.NoStmt (t.AnExpr (name (codes "i") 9)) (clause 13 ((name (codes "x") 18) ∷ []) ([]) (clause 21 ((num (codes "4") 26) ∷ (num (codes "4") 29) ∷ []) ([]) t.NoClauses))) ∷ []) 34) ≡ named_fault 18 50 (codes "x") ∷ fault 29 92 ∷ []
   -- `{ switch { case i == 4: case b: } }`
@@ -147,6 +157,24 @@ pub record RowsControl : Type 0 where
   pub wrong_count_after_another_fault : told_in (one_type int) (block 0 ((t.IfStmt (at 2) t.NoStmt (name (codes "x") 5) (block 7 ([]) 9) t.NoStmt) ∷ (t.ReturnStmt (at 12) (exprs ([]))) ∷ []) 19) ≡ named_fault 5 50 (codes "x") ∷ fault 12 88 ∷ []
   -- `{ }`
   pub missing_return : told_in (one_type int) (block 0 ([]) 2) ≡ fault 2 87 ∷ []
+  -- `{ println(i) }`
+  pub missing_return_after_a_typed_name : told_in (one_type int) (block 0 ((t.ExprStmt (at 2) (exprs ((call (name (codes "println") 2) ((name (codes "i") 10) ∷ [])) ∷ []))) ∷ []) 13) ≡ fault 13 87 ∷ []
+  -- `{ println(lost) }`
+  pub missing_return_after_a_lost_name : told_in (one_type int) (block 0 ((t.ExprStmt (at 2) (exprs ((call (name (codes "println") 2) ((name (codes "lost") 10) ∷ [])) ∷ []))) ∷ []) 16) ≡ []
+  -- `{ lost := 4; i = lost }`: a name of the function's own
+  pub missing_return_after_an_own_name : told_in (one_type int) (block 0 ((t.DefineStmt (at 2) (exprs ((name (codes "lost") 2) ∷ [])) (exprs ((num (codes "4") 10) ∷ []))) ∷ (t.AssignStmt (at 13) (exprs ((name (codes "i") 13) ∷ [])) None (exprs ((name (codes "lost") 17) ∷ []))) ∷ []) 22) ≡ fault 22 87 ∷ []
+  -- `{ lost := 4; println(lost) }`
+  pub missing_return_after_an_own_name_is_printed : told_in (one_type int) (block 0 ((t.DefineStmt (at 2) (exprs ((name (codes "lost") 2) ∷ [])) (exprs ((num (codes "4") 10) ∷ []))) ∷ (t.ExprStmt (at 13) (exprs ((call (name (codes "println") 13) ((name (codes "lost") 21) ∷ [])) ∷ []))) ∷ []) 27) ≡ fault 27 87 ∷ []
+  -- `{ (lost) := 4 }`
+  pub missing_return_after_a_lost_name_in_parentheses : told_in (one_type int) (block 0 ((t.DefineStmt (at 2) (exprs ((t.ParenExpr (at 2) (name (codes "lost") 3)) ∷ [])) (exprs ((num (codes "4") 12) ∷ []))) ∷ []) 14) ≡ []
+  -- `{ lost = 4 }`
+  pub missing_return_after_a_lost_left_side : told_in (one_type int) (block 0 ((t.AssignStmt (at 2) (exprs ((name (codes "lost") 2) ∷ [])) None (exprs ((num (codes "4") 9) ∷ []))) ∷ []) 11) ≡ []
+  -- `{ x := lost; x = 4; println(x) }`
+  pub missing_return_after_an_untyped_left_side : told_in (one_type int) (block 0 ((t.DefineStmt (at 2) (exprs ((name (codes "x") 2) ∷ [])) (exprs ((name (codes "lost") 7) ∷ []))) ∷ (t.AssignStmt (at 13) (exprs ((name (codes "x") 13) ∷ [])) None (exprs ((num (codes "4") 17) ∷ []))) ∷ (t.ExprStmt (at 20) (exprs ((call (name (codes "println") 20) ((name (codes "x") 28) ∷ [])) ∷ []))) ∷ []) 31) ≡ []
+  -- `{ x := 4 }`
+  pub missing_return_after_an_unused_name : told_in (one_type int) (block 0 ((t.DefineStmt (at 2) (exprs ((name (codes "x") 2) ∷ [])) (exprs ((num (codes "4") 7) ∷ []))) ∷ []) 9) ≡ named_fault 2 80 (codes "x") ∷ []
+  -- `{ L: ; }`
+  pub missing_return_after_an_unused_label : told_in (one_type int) (block 0 ((t.LabeledStmt (at 2) (id (codes "L") 2) (t.EmptyStmt (at 5))) ∷ []) 7) ≡ named_fault 2 90 (codes "L") ∷ []
   -- `{ if b { return 4 } else { return 6 } }`
   pub both_ways_return : told_in (one_type int) (block 0 ((t.IfStmt (at 2) t.NoStmt (name (codes "b") 5) (block 7 ((t.ReturnStmt (at 9) (exprs ((num (codes "4") 16) ∷ []))) ∷ []) 18) (t.AStmt (t.BlockStmt (at 25) (block 25 ((t.ReturnStmt (at 27) (exprs ((num (codes "6") 34) ∷ []))) ∷ []) 36)))) ∷ []) 38) ≡ []
   -- `{ if b { return 4 } }`

@@ -20,11 +20,11 @@ use Rattle.go_typing.specs.Operand.{constant_at}
 use Rattle.go_typing.specs.Wanted.{wanted}
 use Rattle.go_typing.specs.Typing.{Callee, a_function, by_value, callee_of, place_of, operator_row}
 use Rattle.go_typing.specs.Uses.{names_in_stmt}
-use Rattle.go_statements.specs.Walk.{Walk, Around, Target, Did, did, faulty, and_then, also, body, within, fresh, uses, uses_all, with_uses, unused}
+use Rattle.go_statements.specs.Walk.{Walk, Around, Target, Did, did, faulty, and_then, also, body, within, fresh, uses, uses_all, with_uses, all_used, unused, any_among}
 use Rattle.go_statements.specs.Expressions.{Valued, answer_in, flaws_in, value_at, value_alone, condition, core_of, type_of, constant_of}
 use Rattle.go_statements.specs.Assign.{assign, update, step, define, where_typed, all_typed, all_in_flaws, same_number, several_right, first_right, undeclared}
 use Rattle.go_statements.specs.Declare.{decl}
-use Rattle.go_statements.specs.Labels.{label_of, labels_told}
+use Rattle.go_statements.specs.Labels.{label_of, labels_in, labels_told}
 
 -- own: a statement that is not built yet
 abbrev pub not_built : Place → t.Stmt → Walk → Did
@@ -251,16 +251,28 @@ count_clauses (t.MoreClauses at xs ss cs) = suc (count_clauses cs)
 abbrev pub clauses_limit : ℕ
 clauses_limit = 1000
 
-abbrev pub many_told : Place → t.Clauses → List Flaw
-many_told at cs = if nat_lt clauses_limit (count_clauses cs) then flaw at 76 ∷ [] else []
+abbrev pub many_told : Place → t.Clauses → (is_typed : Bool) → List Flaw
+many_told at cs is_typed = if is_typed && nat_lt clauses_limit (count_clauses cs) then flaw at 76 ∷ [] else []
 
 abbrev pub where_clean : List Flaw → List Flaw → List Flaw
 where_clean [] fs = fs
 where_clean (g ∷ gs) fs = []
 
--- told where nothing is told of the parts
-abbrev pub limited : Place → t.Clauses → Did → Did
-limited at cs d = record { core = d.core; flaws = d.flaws ++ where_clean d.flaws (many_told at cs); walk = d.walk }
+abbrev pub name_places : List Name → List Place
+name_places [] = []
+name_places (n ∷ ns) = n.place ∷ name_places ns
+
+-- What stands in a statement is typed, where none of its nodes has a fault: its variables are used, its labels have no fault, and
+-- the declarations of the names that it uses are typed. w, v: what is known before it and after it.
+abbrev pub parts_typed : Around → t.Stmt → Walk → Walk → Bool
+parts_typed a s w v =
+    all_used (drop (length w.declared) v.declared) v.used
+    && not (any_among (name_places (labels_in s)) a.wrong_labels)
+    && (v.lost == w.lost)
+
+-- told where all parts are typed
+abbrev pub limited : Place → t.Clauses → (Walk → Bool) → Did → Did
+limited at cs is_typed d = record { core = d.core; flaws = d.flaws ++ where_clean d.flaws (many_told at cs (is_typed d.walk)); walk = d.walk }
 
 -- ---- `return` (88)
 
@@ -342,7 +354,7 @@ abbrev mutual
   stmt (t.IfStmt at init x b other) a w = within (if_did x (maybe init (unlabeled a)) (block b (unlabeled a)) (maybe other (unlabeled a))) w
   stmt (t.ForStmt at init x post b) a w = within (for_did x (maybe init (unlabeled a)) (post_did post (maybe post (unlabeled a))) (λ label. block b (with_target label true a))) w
   stmt (t.RangeStmt at xs is_new y b) a w = not_built at (t.RangeStmt at xs is_new y b) w
-  stmt (t.SwitchStmt at init x cs) a w = limited at cs (within (switch_did x (maybe init (unlabeled a)) (λ tag u label. clauses cs (with_target label false a) tag u 0 [] false)) w)
+  stmt (t.SwitchStmt at init x cs) a w = limited at cs (parts_typed a (t.SwitchStmt at init x cs) w) (within (switch_did x (maybe init (unlabeled a)) (λ tag u label. clauses cs (with_target label false a) tag u 0 [] false)) w)
   stmt (t.TypeSwitchStmt at init n x cs) a w = not_built at (t.TypeSwitchStmt at init n x cs) w
   stmt (t.SelectStmt at cs) a w = not_built at (t.SelectStmt at cs) w
   stmt (t.GoStmt at x) a w = not_built at (t.GoStmt at x) w
@@ -380,16 +392,42 @@ abbrev mutual
 
 -- ---- a function's body
 
--- what is told of a body: its statements, its labels, its unused variables (80), and where it has results and control comes to its
--- end, its closing brace (87)
+-- where it has results and control comes to its end, its closing brace is told (87)
 abbrev pub missing_return : Option Tys → Place → List core.Stmt → List Flaw
 missing_return None end ss = []
 missing_return (Some no_tys) end ss = []
 missing_return (Some (more_tys u us)) end ss = if ends_terminating (body ss) then [] else flaw end 87 ∷ []
 
--- own: whether a body ends is asked of its core, so where its statements have no fault
-abbrev pub body_flaws : Around → t.Block → Place → Did → List Flaw
-body_flaws a b end d = d.flaws ++ labels_told b ++ unused d.walk.declared d.walk.used ++ where_clean d.flaws (missing_return a.results end d.core)
+-- own: that the function is one too many (79)
+abbrev pub far_told : Option Place → List Flaw
+far_told None = []
+far_told (Some at) = flaw at 79 ∷ []
+
+-- what is told of a function as a whole: its end, or else that it is one too many
+abbrev pub whole_told : Around → Place → List core.Stmt → List Flaw
+whole_told a end ss = missing_return a.results end ss ++ where_clean (missing_return a.results end ss) (far_told a.too_far)
+
+-- where all parts are typed: the declarations of the names that they use are, and nothing is told of them
+abbrev pub where_whole : (is_typed : Bool) → List Flaw → List Flaw → List Flaw
+where_whole false parts fs = []
+where_whole true parts fs = where_clean parts fs
+
+-- what is told of a body: its statements, its labels, its unused variables (80), and the function as a whole.
+-- w: what is known before it
+abbrev pub body_flaws : Around → t.Block → Place → Walk → Did → List Flaw
+body_flaws a b end w d =
+    d.flaws ++ labels_told b ++ unused d.walk.declared d.walk.used
+    ++ where_whole (d.walk.lost == w.lost) (d.flaws ++ labels_told b ++ unused d.walk.declared d.walk.used) (whole_told a end d.core)
+
+abbrev pub flaw_places : List Flaw → List Place
+flaw_places [] = []
+flaw_places (f ∷ fs) = f.place ∷ flaw_places fs
+
+-- with the labels of a body that have a fault
+abbrev pub with_labels : t.Block → Around → Around
+with_labels b a = record a { wrong_labels = flaw_places (labels_told b) }
 
 abbrev pub function_body : t.Block → Around → Walk → Did
-function_body (t.BlockOf at ss end) a w = let d = stmts ss a w in record { core = d.core; flaws = body_flaws a (t.BlockOf at ss end) end d; walk = d.walk }
+function_body (t.BlockOf at ss end) a w =
+    let d = stmts ss (with_labels (t.BlockOf at ss end) a) w in
+    record { core = d.core; flaws = body_flaws a (t.BlockOf at ss end) end w d; walk = d.walk }

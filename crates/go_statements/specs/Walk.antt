@@ -1,5 +1,5 @@
 -- own: how the statements of a function's body are gone through, in the order of the text.
-use Rattle.std.specs.Prelude.{ℕ, suc, List, [], ◌∷◌, ◌++◌, Bool, false, Option, Some, None, ◌==◌, ◌||◌, ◌&&◌, if◌then◌else◌, bytes_eq}
+use Rattle.std.specs.Prelude.{ℕ, suc, ◌+◌, List, [], ◌∷◌, ◌++◌, Bool, true, false, Option, Some, None, ◌==◌, ◌||◌, ◌&&◌, if◌then◌else◌, bytes_eq}
 use Rattle.gj_base.specs.declared.place.Place.{Place}
 use Rattle.go_syntax.specs.Tree as t
 use Rattle.go_syntax.specs.declared.tree.Name.{Name}
@@ -7,14 +7,14 @@ use Rattle.go_type.specs.Tree.{Ty, Tys}
 use Rattle.go_type.specs.Named.{NamedTy}
 use Rattle.go_core.specs.CoreTree as core
 use Rattle.go_core.specs.CoreTree.{Var}
-use Rattle.go_typing.specs.Env.{Decl, variable, unknown, Bind, is_blank}
+use Rattle.go_typing.specs.Env.{Decl, variable, unknown, Bind, lookup, is_blank}
 use Rattle.go_typing.specs.Answer.{Flaw}
 use Rattle.go_typing.specs.Scopes.{last_changed, last_scope, with_bind, place_in, without_last}
 use Rattle.go_typing.specs.Uses.{names_in, names_in_all}
 
 -- What is known where a statement begins: named types, scopes (the innermost is the last), the number of the next
--- variable and of the next label, the variables so far, the names of those that statements declared, and where the
--- names stand that were used.
+-- variable and of the next label, the variables so far, the names of those that statements declared, where the
+-- names stand that were used, and how often a name was used whose declaration isn't typed.
 pub record Walk : Type 0 where
   pub names : List NamedTy
   pub scopes : List (List Bind)
@@ -23,6 +23,7 @@ pub record Walk : Type 0 where
   pub vars : List Var
   pub declared : List Name
   pub used : List Place
+  pub lost : ℕ
 
 -- what a `break` or a `continue` may leave: its label's number, its name if it has one, and whether it is a loop
 pub record Target : Type 0 where
@@ -38,6 +39,10 @@ pub record Around : Type 0 where
   pub targets : List Target
   -- the label before the statement
   pub label : Option (List ℕ)
+  -- where those labels of the function stand that have a fault
+  pub wrong_labels : List Place
+  -- own: where the function stands, if it is one too many
+  pub too_far : Option Place
 
 -- What comes of a statement: its core, its faults, and what is known after it. The core is one of a program only where
 -- no statement of the body has a fault.
@@ -135,8 +140,20 @@ abbrev pub places_of : List (List ℕ) → List (List Bind) → List Place
 places_of [] ss = []
 places_of (x ∷ xs) ss = declared_place x ss ++ places_of xs ss
 
+-- a name whose declaration isn't typed
+abbrev pub is_untyped : Option Decl → Bool
+is_untyped (Some unknown) = true
+is_untyped d = false
+
+abbrev pub count_untyped : List (List ℕ) → List (List Bind) → ℕ
+count_untyped [] ss = 0
+count_untyped (x ∷ xs) ss = (if is_untyped (lookup x ss) then 1 else 0) + count_untyped xs ss
+
+abbrev pub with_lost : List (List ℕ) → Walk → Walk
+with_lost xs w = record w { lost = w.lost + count_untyped xs w.scopes }
+
 abbrev pub with_uses : List (List ℕ) → Walk → Walk
-with_uses xs w = record w { used = w.used ++ places_of xs w.scopes }
+with_uses xs w = record w { used = w.used ++ places_of xs w.scopes; lost = w.lost + count_untyped xs w.scopes }
 
 -- each variable whose name occurs in an expression is used
 abbrev pub uses : t.Expr → Walk → Walk
@@ -152,7 +169,18 @@ abbrev pub is_among : Place → List Place → Bool
 is_among p [] = false
 is_among p (q ∷ qs) = same_place q p || is_among p qs
 
+-- own: whether an expression uses each of the variables
+abbrev pub all_used : List Name → List Place → Bool
+all_used [] used = true
+all_used (n ∷ ns) used = is_among n.place used && all_used ns used
+
 -- own: variables that no expression uses (80)
 abbrev pub unused : List Name → List Place → List Flaw
 unused [] used = []
 unused (n ∷ ns) used = if is_among n.place used then unused ns used else record { place = n.place; code = 80; name = n.text } ∷ unused ns used
+
+-- ---- places
+
+abbrev pub any_among : List Place → List Place → Bool
+any_among [] qs = false
+any_among (p ∷ ps) qs = is_among p qs || any_among ps qs

@@ -35,7 +35,7 @@ is_visible k e h =
     ∙ ap (λ (ss : List (List Bind)). universe None ∷ k.binds ∷ ss) h.blocks
 
 abbrev walk_in : List NamedTy → List (List Bind) → Walk
-walk_in ns ss = record { names = ns; scopes = ss; next = 0; next_label = 0; vars = []; declared = []; used = [] }
+walk_in ns ss = record { names = ns; scopes = ss; next = 0; next_label = 0; vars = []; declared = []; used = []; lost = 0 }
 
 pub is_outside : (k : Known) (e : Env) → Stands k (env_of e) → walk_outside e ≡ outside k
 is_outside k e h = ap (λ (ns : List NamedTy). walk_in ns (visible (env_of e))) h.names ∙ ap (walk_in k.names) (is_visible k (env_of e) h)

@@ -1,8 +1,9 @@
 -- What comes of a package after the bodies of its functions.
 use Rattle.std.proofs.Common.{◌≡◌, ◌<◌, ◌+◌, ◌∙◌, ℕ, suc, sym, ap, subst, List, [], ◌∷◌, ◌++◌, map}
-use Rattle.std.specs.Prelude.{codes, Ok, Err, Result, IfOk}
+use Rattle.std.specs.Prelude.{codes, Option, Ok, Err, Result, IfOk}
 use Rattle.gj_base.specs.declared.fault.Refusal.{Refusal}
 use Rattle.gj_base.specs.declared.fault.Refusal.TheVariants as refusal
+use Rattle.gj_base.specs.declared.place.Place.{Place}
 use Rattle.go_syntax.specs.Tree as t
 use Rattle.go_type.specs.Tree as ty
 use Rattle.go_type.specs.Tree.{Ty}
@@ -23,7 +24,7 @@ use Rattle.go_core.specs.declared.program.Program.{Program}
 use Rattle.go_statements.specs.Walk.{Walk}
 use Rattle.go_packages.specs.Known.{hidden, outside}
 use Rattle.go_packages.specs.Functions.{Between, Functions, functions_from}
-use Rattle.go_packages.specs.Checked.{known_in, told, or_generated, count_functions, between_of, error_function, runtime_function, method_at, program_with, program_of}
+use Rattle.go_packages.specs.Checked.{known_in, first_too_far, told, or_generated, count_functions, between_of, error_function, runtime_function, method_at, program_with, program_of}
 use Rattle.go_binds.specs.Stands.{Stands}
 use Rattle.go_walk.specs.WalkView.{walk_outside, walk_of, Keeps}
 use Rattle.go_walk.specs.declared.walk.Walk as code
@@ -86,8 +87,8 @@ plain_in ds e d same stands = subst (λ (x : Env). IsPlain (visible (env_of x)))
 
 -- from the environment e before the bodies; v: the walk after them
 module _ (ds : List t.Decl) (e : Env) (w v : code.Walk) (hs : List Head) (same : w.env ≡ e) (none : w.next ≡ 0) (stands : Stands (known_in ds) (env_of e))
-    (view : (ts : List Ty) → Keeps (table_of e) ts → map (head_view ts) hs ≡ heads_from (outside (known_in ds)) ds)
-    (law : (w : Walk) (ds : List t.Decl) (k : Between) → functions_by w (heads_from w ds) k ≡ functions_from w ds k) (back : (ts : List Ty) → Keeps (table_of v.env) ts → Keeps (table_of w.env) ts) where
+    (view : (ts : List Ty) → Keeps (table_of e) ts → map (head_view ts) hs ≡ heads_from (first_too_far ds) (outside (known_in ds)) ds)
+    (law : (far : Option Place) (w : Walk) (ds : List t.Decl) (k : Between) → functions_by w (heads_from far w ds) k ≡ functions_from far w ds k) (back : (ts : List Ty) → Keeps (table_of v.env) ts → Keeps (table_of w.env) ts) where
   kept : Keeps (table_of e) (places (table_of v.env))
   kept = subst (λ (x : Env). Keeps (table_of x) (places (table_of v.env))) same (back (places (table_of v.env)) (keeps_own (table_of v.env)))
 
@@ -102,8 +103,8 @@ module _ (ds : List t.Decl) (e : Env) (w v : code.Walk) (hs : List Head) (same :
   all_are =
       ap (λ (x : Walk). functions_by x (map (head_view (places (table_of v.env))) hs) (now_of w)) scope_is
       ∙ ap (λ (xs : List heads.Head). functions_by (outside (known_in ds)) xs (now_of w)) (view (places (table_of v.env)) kept)
-      ∙ ap (functions_by (outside (known_in ds)) (heads_from (outside (known_in ds)) ds)) now_is
-      ∙ law (outside (known_in ds)) ds (between_of (known_in ds))
+      ∙ ap (functions_by (outside (known_in ds)) (heads_from (first_too_far ds) (outside (known_in ds)) ds)) now_is
+      ∙ law (first_too_far ds) (outside (known_in ds)) ds (between_of (known_in ds))
 
   pub made_of : (fs : List Func) (id : TypeId) → tree_of (places (table_of e)) id ≡ hidden → id.0 < size (table_of e)
       → ((ts : List Ty) → Keeps (table_of v.env) ts → map (func_view ts) fs ≡ (functions_by (walk_outside w.env) (map (head_view ts) hs) (now_of w)).funcs)

@@ -26,7 +26,7 @@ names_flaws ds = names_told [] (items_of ds) ++ cycle_flaws (known_in ds).binds 
 
 -- and of its declarations, bodies aside
 abbrev pub flaws_before : List t.Decl → List Flaw
-flaws_before ds = names_flaws ds ++ decls_told 0 (outside (known_in ds)) ds
+flaws_before ds = names_flaws ds ++ decls_told (outside (known_in ds)) ds
 
 -- a fault with the name that is told of it
 abbrev pub fault_with : Flaw → Fault

@@ -10,7 +10,7 @@ ghost use Rattle.go_syntax.specs.View.{file_view};
 ghost use Rattle.go_scopes.specs.EnvView.{table_of, env_of};
 ghost use Rattle.go_answers.specs.AnswerView.{flaw_view};
 ghost use Rattle.go_items.specs.ItemView.{decls_of};
-ghost use Rattle.go_packages.specs.Checked.{known_in};
+ghost use Rattle.go_packages.specs.Checked.{known_in, first_too_far};
 ghost use Rattle.go_packages.specs.Known.{hidden, outside};
 ghost use Rattle.go_packages.specs.Told.{decls_told};
 ghost use Rattle.go_binds.specs.Stands.{Stands};
@@ -26,6 +26,7 @@ use go_decls::decls_told;
 use go_first::{First, first_env};
 use go_heads::Head;
 use go_heads::heads::heads;
+use go_items::count::first_too_far;
 use go_items::items::items_of;
 use go_known::known;
 use go_scopes::Env;
@@ -78,13 +79,14 @@ fn outside_bodies<'a>(
 ) -> Result<Vec<Head<'a>>, NoMemory>
     requires stands { Stands (known_in (decls_of (map file_view files.now))) (env_of env.old) }
     ensures stands { OnOk result (Stands (known_in (decls_of (map file_view files.now))) (env_of env.new)) }
-    ensures told { OnOk result (map flaw_view flaws.new.items ≡ map flaw_view flaws.old.items ++ decls_told 0 (outside (known_in (decls_of (map file_view files.now)))) (decls_of (map file_view files.now))) }
-    ensures view { IfOk result (λ hs. (ts : List Ty) → Keeps (table_of env.new) ts → map (head_view ts) hs.items ≡ heads_from (outside (known_in (decls_of (map file_view files.now)))) (decls_of (map file_view files.now))) }
+    ensures told { OnOk result (map flaw_view flaws.new.items ≡ map flaw_view flaws.old.items ++ decls_told (outside (known_in (decls_of (map file_view files.now)))) (decls_of (map file_view files.now))) }
+    ensures view { IfOk result (λ hs. (ts : List Ty) → Keeps (table_of env.new) ts → map (head_view ts) hs.items ≡ heads_from (first_too_far (decls_of (map file_view files.now))) (outside (known_in (decls_of (map file_view files.now)))) (decls_of (map file_view files.now))) }
     ensures ready { IfOk result (λ hs. AreReady (table_of env.new) (outside (known_in (decls_of (map file_view files.now)))) hs.items) }
     ensures grows { OnOk result (Grows env.old env.new) }
 {
     decls_told(alloc, env, flaws, files)?;
-    let all = heads(alloc, env, files)?;
+    let far = first_too_far(files);
+    let all = heads(alloc, env, far, files)?;
     Ok(all)
 }
 
@@ -97,7 +99,7 @@ pub fn before_bodies<'a>(
     ensures stands { IfOk result (λ b. Stands (known_in (decls_of (map file_view files.now))) (env_of b.env)) }
     ensures hidden { IfOk result (λ b. tree_of (places (table_of b.env)) b.hidden ≡ hidden) }
     ensures within { IfOk result (λ b. b.hidden.0 < size (table_of b.env)) }
-    ensures view { IfOk result (λ b. (ts : List Ty) → Keeps (table_of b.env) ts → map (head_view ts) b.heads.items ≡ heads_from (outside (known_in (decls_of (map file_view files.now)))) (decls_of (map file_view files.now))) }
+    ensures view { IfOk result (λ b. (ts : List Ty) → Keeps (table_of b.env) ts → map (head_view ts) b.heads.items ≡ heads_from (first_too_far (decls_of (map file_view files.now))) (outside (known_in (decls_of (map file_view files.now)))) (decls_of (map file_view files.now))) }
     ensures ready { IfOk result (λ b. AreReady (table_of b.env) (outside (known_in (decls_of (map file_view files.now)))) b.heads.items) }
     ensures told { OnOk result (map flaw_view flaws.new.items ≡ map flaw_view flaws.old.items ++ flaws_before (decls_of (map file_view files.now))) }
 {

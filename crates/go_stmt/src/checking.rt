@@ -2,7 +2,8 @@
 //!
 //! Go, "Packages", "Program execution".
 
-ghost use Rattle.std.specs.Prelude.{◌≡◌, ◌++◌, List, map, IfOk};
+ghost use Rattle.std.specs.Prelude.{◌≡◌, ◌++◌, List, Option, map, IfOk};
+ghost use Rattle.gj_base.specs.declared.place.Place as place;
 ghost use Rattle.go_syntax.specs.Tree as t;
 ghost use Rattle.go_syntax.specs.View.{file_view};
 ghost use Rattle.go_items.specs.ItemView.{decls_of};
@@ -67,7 +68,7 @@ fn after_bodies(
 
 // The functions of a package go by what is known of each before its body.
 fn by_heads()
-    ensures law { (w : go.Walk) (ds : List t.Decl) (k : Between) → functions_by w (heads_from w ds) k ≡ functions_from w ds k }
+    ensures law { (far : Option place.Place) (w : go.Walk) (ds : List t.Decl) (k : Between) → functions_by w (heads_from far w ds) k ≡ functions_from far w ds k }
 {
     laws::functions();
 }
@@ -91,6 +92,7 @@ fn check_files(alloc: Global, files: &[File]) -> Result<Program, Refusal>
                 vars: _vars,
                 declared: _declared,
                 used: _used,
+                lost: _lost,
             } = walk;
             after_bodies(alloc, files, flaws, env, next, funcs, hidden, count)
         }

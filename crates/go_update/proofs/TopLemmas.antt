@@ -78,7 +78,7 @@ pub raws_earlier : (a b : Walk) (rs : List Raw) (es : List t.Expr) → Stays a b
 raws_earlier a b rs es s h = raws_grown a.env b.env rs es s.grows h
 
 abbrev outside : List NamedTy → List (List Bind) → go.Walk
-outside ns ss = record { names = ns; scopes = ss; next = 0; next_label = 0; vars = []; declared = []; used = [] }
+outside ns ss = record { names = ns; scopes = ss; next = 0; next_label = 0; vars = []; declared = []; used = []; lost = 0 }
 
 outside_grown : (a b : Env) → Grows a b → walk_outside b ≡ walk_outside a
 outside_grown a b g = ap (λ (ns : List NamedTy). outside ns (scopes_of b)) (names_grown a b g) ∙ ap (outside (names_of a)) (scopes_grown a b g)
@@ -135,18 +135,18 @@ update_gives at op X Y b c d p x r l f0 f1 o0 o1 s k q h z y v g =
     (names_grown c.env d.env k.grows ∙ names_grown b.env c.env s.grows) q
     (y ∙ ap (λ (ns : List NamedTy). typing ns (scopes_of c.env) X) (names_grown b.env c.env s.grows) ∙ ap (λ (ss : List (List Bind)). typing (names_of b.env) ss X) (scopes_grown b.env c.env s.grows))
     (v ts ∙ ap Y (s.walk ts))
-    (left_kept (table_of c.env) (table_of d.env) l k.grows.kept z ∙ h ∙ sym (left_same (names_of b.env) (scopes_of b.env) b.next b.next_label (map (var_of ts) b.vars.items) b.declared.items b.used.items X)))
+    (left_kept (table_of c.env) (table_of d.env) l k.grows.kept z ∙ h ∙ sym (left_same (names_of b.env) (scopes_of b.env) b.next b.next_label (map (var_of ts) b.vars.items) b.declared.items b.used.items b.lost X)))
 
 -- uses leave names and scopes as they are
-left_used : (w : go.Walk) (us : List Place) (X : t.Expr) → left_of (record w { used = us }) X ≡ left_of w X
-left_used w us X = left_same w.names w.scopes w.next w.next_label w.vars w.declared us X ∙ sym (left_same w.names w.scopes w.next w.next_label w.vars w.declared w.used X)
+left_used : (w : go.Walk) (us : List Place) (n : ℕ) (X : t.Expr) → left_of (record w { used = us; lost = n }) X ≡ left_of w X
+left_used w us n X = left_same w.names w.scopes w.next w.next_label w.vars w.declared us n X ∙ sym (left_same w.names w.scopes w.next w.next_label w.vars w.declared w.used w.lost X)
 
-used_same : (at : Place) (op : Op) (X : t.Expr) (r : Raw) (w : go.Walk) (us : List Place)
-    → update_left (record w { used = us }) at op X r.part r.flaws (left_of (record w { used = us }) X) (record w { used = us }) ≡ update_left w at op X r.part r.flaws (left_of w X) (record w { used = us })
-used_same at op X r w us =
-    let u : go.Walk = record w { used = us } in
+used_same : (at : Place) (op : Op) (X : t.Expr) (r : Raw) (w : go.Walk) (us : List Place) (n : ℕ)
+    → update_left (record w { used = us; lost = n }) at op X r.part r.flaws (left_of (record w { used = us; lost = n }) X) (record w { used = us; lost = n }) ≡ update_left w at op X r.part r.flaws (left_of w X) (record w { used = us; lost = n })
+used_same at op X r w us n =
+    let u : go.Walk = record w { used = us; lost = n } in
     sym (updated_did u at op X r.part r.flaws (left_of u X) u)
-    ∙ ap (λ (l : Left). as_did u (gives_at at op w.names (place_of X) (answer_in w X) r l)) (left_used w us X)
+    ∙ ap (λ (l : Left). as_did u (gives_at at op w.names (place_of X) (answer_in w X) r l)) (left_used w us n X)
     ∙ updated_did w at op X r.part r.flaws (left_of w X) u
 
 pub update_one_does : (at : Place) (op : Op) (X Y : t.Expr) (a b d : Walk) (f0 f1 : List code.Flaw) (o0 o1 : List CoreStmt) → Moves (λ w. uses X (uses Y w)) a b
@@ -155,7 +155,7 @@ pub update_one_does : (at : Place) (op : Op) (X Y : t.Expr) (a b d : Walk) (f0 f
 update_one_does at op X Y a b d f0 f1 o0 o1 m k =
     let D = λ (w : go.Walk). update_left w at op X (raw_of w.names w.scopes Y).part (raw_of w.names w.scopes Y).flaws (left_of w X) w in
     does_same (λ w. D (uses X (uses Y w))) (update at op (exprs_of (X ∷ [])) (exprs_of (Y ∷ []))) a d f0 f1 o0 o1
-    (λ w. used_same at op X (raw_of w.names w.scopes Y) w (uses X (uses Y w)).used)
+    (λ w. used_same at op X (raw_of w.names w.scopes Y) w (uses X (uses Y w)).used (uses X (uses Y w)).lost)
     (does_moved (λ w. uses X (uses Y w)) D a b d f0 f1 o0 o1 m k)
 
 pub step_one_does : (at : Place) (op : Op) (up : Bool) (X : t.Expr) (a b d : Walk) (f0 f1 : List code.Flaw) (o0 o1 : List CoreStmt) → op ≡ step_op up → Moves (uses X) a b → Does (λ w. update_left w at op X (one_ at) [] (left_of w X) w) b d f0 f1 o0 o1
@@ -163,7 +163,7 @@ pub step_one_does : (at : Place) (op : Op) (up : Bool) (X : t.Expr) (a b d : Wal
 step_one_does at op up X a b d f0 f1 o0 o1 p m k =
     let D = λ (w : go.Walk). update_left w at op X (one_ at) [] (left_of w X) w in
     does_same (λ w. D (uses X w)) (step at (exprs_of (X ∷ [])) up) a d f0 f1 o0 o1
-    (λ w. used_same at op X (record { part = one_ at; flaws = [] }) w (uses X w).used ∙ ap (λ (o : Op). update_left w at o X (one_ at) [] (left_of w X) (uses X w)) p)
+    (λ w. used_same at op X (record { part = one_ at; flaws = [] }) w (uses X w).used (uses X w).lost ∙ ap (λ (o : Op). update_left w at o X (one_ at) [] (left_of w X) (uses X w)) p)
     (does_moved (uses X) D a b d f0 f1 o0 o1 m k)
 
 -- ---- a wrong count
@@ -184,7 +184,7 @@ counted_at : (at : Place) (X Y : List t.Expr) (a : Walk) (e : Env) (ls : List Le
     → gives_did (not_as_many at ls rs) u ≡ miscounted at (walk_of ts a) (exprs_of X) (exprs_of Y) u
 counted_at at X Y a e ls rs ts u p h k =
     ap (λ (x : List Left). gives_did (not_as_many at x rs) u)
-    (h ∙ ap (λ (x : Env). lefts_of (walk_outside x) X) p ∙ sym (lefts_same (names_of a.env) (scopes_of a.env) a.next a.next_label (map (var_of ts) a.vars.items) a.declared.items a.used.items X))
+    (h ∙ ap (λ (x : Env). lefts_of (walk_outside x) X) p ∙ sym (lefts_same (names_of a.env) (scopes_of a.env) a.next a.next_label (map (var_of ts) a.vars.items) a.declared.items a.used.items a.lost X))
     ∙ ap (λ (x : List Raw). gives_did (not_as_many at (lefts_of (walk_of ts a) X) x) u) (k ∙ ap (λ (x : Env). raws_of (names_of x) (scopes_of x) Y) p)
     ∙ counted at (walk_of ts a) X Y u
 

@@ -4,3 +4,4 @@ pub mod ScopeLemmas
 pub mod WalkLemmas
 pub mod UsedLemmas
 pub mod TypeLemmas
+pub mod PartLemmas

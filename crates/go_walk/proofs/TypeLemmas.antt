@@ -65,6 +65,6 @@ read_before s t under of e h = subst (λ (r : TypeTable). tree_of (places r) und
 pub keeps_over : (s t u : TypeTable) → places t ≡ places s → size t ≡ size s → KeepsTrees t u → KeepsTrees s u
 keeps_over s t u p n k = λ i h. k i (subst (λ (m : ℕ). i.0 < m) (sym n) h) ∙ ap (λ (ts : List Ty). tree_of ts i) p
 
-pub declares_type : (n : Name) (u t : Ty) (ns ms : List NamedTy) (ss rs : List (List Bind)) (next label : ℕ) (vs : List Var) (ds : List Name) (us : List Place) → t ≡ ty.named (length ns) → ms ≡ ns ++ named_for n.text (underlying ns u) ∷ [] → rs ≡ ss
-    → with_name n (type_name t) (made ms rs next label vs ds us) ≡ declare_type n false (Some u) (made ns ss next label vs ds us)
-declares_type n u t ns ms ss rs next label vs ds us a b c = λ j. with_name n (type_name (a j)) (made (b j) (c j) next label vs ds us)
+pub declares_type : (n : Name) (u t : Ty) (ns ms : List NamedTy) (ss rs : List (List Bind)) (next label : ℕ) (vs : List Var) (ds : List Name) (us : List Place) (lost : ℕ) → t ≡ ty.named (length ns) → ms ≡ ns ++ named_for n.text (underlying ns u) ∷ [] → rs ≡ ss
+    → with_name n (type_name t) (made ms rs next label vs ds us lost) ≡ declare_type n false (Some u) (made ns ss next label vs ds us lost)
+declares_type n u t ns ms ss rs next label vs ds us lost a b c = λ j. with_name n (type_name (a j)) (made (b j) (c j) next label vs ds us lost)

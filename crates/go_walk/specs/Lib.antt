@@ -1,1 +1,2 @@
 pub mod WalkView
+pub mod Parts

@@ -27,15 +27,16 @@ walk_of ts w = record {
   vars = map (var_of ts) w.vars.items;
   declared = w.declared.items;
   used = w.used.items;
+  lost = w.lost;
 }
 
 -- outside all functions
 abbrev pub walk_outside : Env → go.Walk
-walk_outside e = record { names = names (table_of e); scopes = visible (env_of e); next = 0; next_label = 0; vars = []; declared = []; used = [] }
+walk_outside e = record { names = names (table_of e); scopes = visible (env_of e); next = 0; next_label = 0; vars = []; declared = []; used = []; lost = 0 }
 
 -- in a function's own scope
 abbrev pub begun : go.Walk → go.Walk
-begun w = record w { scopes = w.scopes ++ [] ∷ []; vars = []; next_label = 0; declared = []; used = [] }
+begun w = record w { scopes = w.scopes ++ [] ∷ []; vars = []; next_label = 0; declared = []; used = []; lost = 0 }
 
 -- how many blocks are open
 abbrev pub depth : Walk → ℕ

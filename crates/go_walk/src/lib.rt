@@ -7,6 +7,7 @@
 
 pub mod again;
 pub mod kinds;
+pub mod parts;
 pub mod scopes;
 pub mod unused;
 pub mod uses;

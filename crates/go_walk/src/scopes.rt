@@ -81,6 +81,7 @@ pub fn count_none(walk: &mut Walk)
     ensures env { env_of walk.new.env ≡ scopes.counting None (env_of walk.old.env) }
     ensures table { table_of walk.new.env ≡ table_of walk.old.env }
     ensures kept { (walk.new.vars ≡ walk.old.vars) × (walk.new.declared ≡ walk.old.declared) × (walk.new.used ≡ walk.old.used) }
+    ensures lost { walk.new.lost ≡ walk.old.lost }
     ensures numbers { (walk.new.next ≡ walk.old.next) × (walk.new.next_label ≡ walk.old.next_label) }
 {
     walk.env.count(None);

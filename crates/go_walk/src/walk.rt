@@ -29,6 +29,8 @@ pub struct Walk {
     pub declared: Vec<Name>,
     /// Where the declarations stand that were used.
     pub used: Vec<Place>,
+    /// How often a name was used whose declaration isn't typed.
+    pub lost: u64,
 }
 
 impl Walk {
@@ -44,6 +46,7 @@ impl Walk {
             vars: Vec::new(alloc),
             declared: Vec::new(alloc),
             used: Vec::new(alloc),
+            lost: 0,
         }
     }
 
@@ -58,6 +61,7 @@ impl Walk {
         self.vars.clear();
         self.declared.clear();
         self.used.clear();
+        self.lost = 0;
         Ok(())
     }
 

@@ -346,7 +346,41 @@ const CASES: [Case; 68] = [
     },
 ];
 
+// A function as a whole: told where the declaration of each name in it is typed.
+const WHOLES: [Case; 5] = [
+    Case {
+        name: "no-return-beside-a-faulty-constant",
+        source: "package main\n\nfunc f() int8 {\n\t_ = c\n}\n\nfunc main() {\n}\n\nconst c int8 = 300\n",
+        told: "main.go:10:16: constant does not fit its type\n",
+    },
+    Case {
+        name: "no-return-beside-a-constant",
+        source: "package main\n\nfunc f() int8 {\n\t_ = c\n}\n\nfunc main() {\n}\n\nconst c int8 = 30\n",
+        told: "main.go:5:1: missing return\n",
+    },
+    Case {
+        name: "no-return-where-a-faulty-constant-stands-on-the-left",
+        source: "package main\n\nfunc f() int8 {\n\tc = 4\n}\n\nfunc main() {\n}\n\nconst c int8 = 300\n",
+        told: "main.go:10:16: constant does not fit its type\n",
+    },
+    Case {
+        name: "no-return-where-a-variable-takes-a-faulty-constant",
+        source: "package main\n\nfunc f() int8 {\n\tx := c\n\tx = 4\n\tprintln(x)\n}\n\nfunc main() {\n}\n\nconst c int8 = 300\n",
+        told: "main.go:12:16: constant does not fit its type\n",
+    },
+    Case {
+        name: "no-return-where-a-variable-takes-a-constant",
+        source: "package main\n\nfunc f() int8 {\n\tx := c\n\tx = 4\n\tprintln(x)\n}\n\nfunc main() {\n}\n\nconst c int8 = 30\n",
+        told: "main.go:7:1: missing return\n",
+    },
+];
+
 #[test]
 fn control(rt: HostRuntime) -> Result<(), Fail> {
     check_all(&rt, rt.alloc(), &CASES)
+}
+
+#[test]
+fn wholes(rt: HostRuntime) -> Result<(), Fail> {
+    check_all(&rt, rt.alloc(), &WHOLES)
 }

@@ -52,6 +52,66 @@ fn clauses_of_a_switch(rt: HostRuntime) -> Result<(), Fail> {
     Ok(())
 }
 
+/// The whole is told where all its parts are typed: a variable that is not used, a label that is not used
+/// or a constant whose declaration has a fault stands in the way, also on the left of an assignment. The
+/// clause 1001 is at line 6 + 1000.
+#[test]
+fn clauses_with_a_part_that_is_not_typed(rt: HostRuntime) -> Result<(), Fail> {
+    let files = clauses(rt.alloc(), 1000, "\tcase x == 4:\n\t\ty := 1\n\t}\n}\n")?;
+    let told = "main.go:1007:3: y declared but not used\n";
+    check_told(
+        &rt,
+        rt.alloc(),
+        files,
+        "a-clause-too-many-with-an-unused-variable",
+        told,
+    )?;
+    let files = clauses(
+        rt.alloc(),
+        1000,
+        "\tcase x == 4:\n\tL:\n\t\tfor {\n\t\t}\n\t}\n}\n",
+    )?;
+    let told = "main.go:1007:2: label L defined and not used\n";
+    check_told(
+        &rt,
+        rt.alloc(),
+        files,
+        "a-clause-too-many-with-an-unused-label",
+        told,
+    )?;
+    let after = "\tcase x == c:\n\t}\n}\n\nconst c int8 = 300\n";
+    let files = clauses(rt.alloc(), 1000, after)?;
+    let told = "main.go:1010:16: constant does not fit its type\n";
+    check_told(
+        &rt,
+        rt.alloc(),
+        files,
+        "a-clause-too-many-with-a-faulty-constant",
+        told,
+    )?;
+    let after = "\tcase x == 4:\n\t\tc = 4\n\t}\n}\n\nconst c int8 = 300\n";
+    let files = clauses(rt.alloc(), 1000, after)?;
+    let told = "main.go:1011:16: constant does not fit its type\n";
+    check_told(
+        &rt,
+        rt.alloc(),
+        files,
+        "a-clause-too-many-with-a-faulty-constant-on-the-left",
+        told,
+    )?;
+    let after = "\tcase x == c:\n\t}\n}\n\nconst c = 300\n";
+    let files = clauses(rt.alloc(), 1000, after)?;
+    let past = "main.go:5:2: more than 1000 parts\n";
+    check_told(
+        &rt,
+        rt.alloc(),
+        files,
+        "a-clause-too-many-with-a-constant",
+        past,
+    )?;
+    Ok(())
+}
+
 /// `main` at line 3, so many functions more from line 5 on, one a line, and then this.
 fn functions(alloc: Global, more: u32, after: &str) -> Result<TreeFiles, Fail> {
     let before = "package main\n\nfunc main() {\n}\n";

@@ -1,18 +1,33 @@
-use Rattle.std.proofs.Common.{arith, map, false}
-use Rattle.std.specs.Prelude.{None}
-use Rattle.go_syntax.specs.View.{stmt_view, stmts_of}
-use Rattle.go_callee.specs.Words.{types_of}
-use Rattle.go_labels.specs.Left.{targets_of}
-use Rattle.go_simple.specs.AroundView.{around_of}
+use Rattle.std.proofs.Common.{◌∙◌, ◌++◌, refl, ap, map, List}
+use Rattle.go_syntax.specs.View.{block_view}
+use Rattle.go_answers.specs.AnswerView.{flaw_view}
+use Rattle.go_answers.specs.declared.answer.Flaw.{Flaw}
+use Rattle.go_simple.specs.declared.around.Around.{Around}
+use Rattle.go_statements.specs.Labels.{labels_told}
+use Rattle.go_statements.specs.Statements.{flaw_places}
 use Rattle.go_body.proofs.BodyLemmas.{body_does}
-use Rattle.go_body.proofs.StmtLemmas.{ready_clause}
+use Rattle.go_body.proofs.KeepLemmas.{ready_other}
 use Rattle.go_body.proofs.body.function_body.Goals as goal
 
-pub returns-in-Ok-told_whole-clause-does : goal.returns-in-Ok-told_whole-clause-does
-returns-in-Ok-told_whole-clause-does c =
-    body_does c.args.around.now c.args.b.now c.as_slice.result.now (targets_of c.new-targets.result) c.new-out.result.items c.len-before.result c.is_clean-clean.result c.args.walk.now c.stmts.new.walk c.args.flaws.now.items c.stmts.new.flaws.items c.told_whole.new.flaws.items c.stmts.new.out.items c.as_slice-in-Ok.result.now c.ends_with-ends.result
-    c.as_slice-in-Ok.ensures.value c.ends_with-ends.ensures.value c.as_slice.ensures.value c.new-targets.ensures c.new-out.ensures.items (let u = c.len-before.ensures in let v = c.args.flaws.now.ok.0 in omega (arith, u, v)) c.is_clean-clean.ensures.value c.in-Ok.ensures.does c.in-Ok-told_whole.ensures.told
+pub body_stmts-requires : goal.body_stmts-requires
+body_stmts-requires c =
+    let a = c.args.around.now in
+    let inside : Around = record { results = a.results; named = a.named; wrong_labels = c.as_slice-wrong_labels.result; too_far = a.too_far } in
+    record { ready = ready_other a inside c.args.walk.now refl c.requires.ready }
 
-pub returns-in-Ok-told_whole-clause-ready : goal.returns-in-Ok-told_whole-clause-ready
-returns-in-Ok-told_whole-clause-ready c =
-    ready_clause c.args.around.now false (stmts_of (map stmt_view c.as_slice.result.now)) (around_of (types_of c.args.walk.now.env) c.args.around.now (targets_of c.new-targets.result) None) c.args.walk.now c.stmts.new.walk c.args.flaws.now.items c.stmts.new.flaws.items c.new-out.result.items c.stmts.new.out.items c.in-Ok.ensures.does c.requires.ready
+pub returns-in-Ok-clause-does : goal.returns-in-Ok-clause-does
+returns-in-Ok-clause-does c =
+    let a = c.args.around.now in
+    let b = c.args.b.now in
+    let inside : Around = record { results = a.results; named = a.named; wrong_labels = c.as_slice-wrong_labels.result; too_far = a.too_far } in
+    body_does a inside b c.so_far-before.result c.labels_told.new.flaws.items c.args.walk.now c.body_stmts.new.walk c.args.flaws.now.items c.body_stmts.new.flaws.items c.told_whole.new.flaws.items c.in_ok-out.out.items c.as_slice-made.result.now c.ends_with-ends.result
+    c.as_slice-made.ensures.value c.ends_with-ends.ensures.value c.so_far-before.ensures.flaws c.so_far-before.ensures.lost refl refl refl
+    (c.as_slice-wrong_labels.ensures.value ∙ c.in_ok-wrong.ensures.value ∙ ap (λ (fs : List Flaw). flaw_places (map flaw_view fs)) c.as_slice.ensures.value)
+    (c.in_ok-labels_told.ensures.value ∙ ap (λ (fs : List Flaw). map flaw_view fs ++ labels_told (block_view b)) c.new-labels.ensures.items)
+    c.in_ok-out.ensures.does c.in-Ok.ensures.told
+
+pub returns-in-Ok-clause-ready : goal.returns-in-Ok-clause-ready
+returns-in-Ok-clause-ready c =
+    let a = c.args.around.now in
+    let inside : Around = record { results = a.results; named = a.named; wrong_labels = c.as_slice-wrong_labels.result; too_far = a.too_far } in
+    ready_other inside a c.body_stmts.new.walk refl c.in_ok-out.ensures.ready

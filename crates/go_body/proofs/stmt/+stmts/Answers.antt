@@ -55,7 +55,7 @@ stmt-pop-requires-in-For t c =
 
 pub stmt-returns-in_ok-told_many-in-Switch-clause-does : goal.stmt-returns-in_ok-told_many-in-Switch-clause-does
 stmt-returns-in_ok-told_many-in-Switch-clause-does t c =
-    lemma.switch_arm c.args.around.now (targets_of c.args.targets.now) c.args.s.now c.deref.result.now (option_map (λ x. x.now) c.args.label) c.args.walk.now c.pop-in-Switch.new.walk c.args.flaws.now.items c.told_many.new.flaws.items c.args.out.now.items c.switch_stmt.new.out.items c.in-Switch.init c.in-Switch.x c.as_slice.result.now c.in-Switch.cs c.len-before.result c.len.result c.switch_stmt.new.flaws.items c.push-in-Switch.new.walk c.switch_stmt.new.walk c.deref.ensures c.in-Switch.is c.as_slice.ensures.value c.requires.ready c.in_ok-push-in-Switch.ensures.value c.in_ok-push-in-Switch.ensures.depth c.push-in-Switch.ensures.table c.in_ok-switch_stmt-in-Switch.ensures.does c.pop-in-Switch.ensures.value c.pop-in-Switch.ensures.depth c.pop-in-Switch.ensures.table (let u = c.len-before.ensures in let v = c.args.flaws.now.ok.0 in omega (arith, u, v)) (c.len.ensures ∙ lemma.same_length c.in-Switch.cs c.as_slice.result.now c.as_slice.ensures.value) c.in_ok-told_many-in-Switch.ensures.told
+    lemma.switch_arm c.args.around.now (targets_of c.args.targets.now) c.args.s.now c.deref.result.now (option_map (λ x. x.now) c.args.label) c.args.walk.now c.pop-in-Switch.new.walk c.args.flaws.now.items c.told_many.new.flaws.items c.args.out.now.items c.switch_stmt.new.out.items c.in-Switch.init c.in-Switch.x c.as_slice.result.now c.in-Switch.cs c.so_far-before.result c.len.result c.switch_stmt.new.flaws.items c.push-in-Switch.new.walk c.switch_stmt.new.walk c.deref.ensures c.in-Switch.is c.as_slice.ensures.value c.requires.ready c.in_ok-push-in-Switch.ensures.value c.in_ok-push-in-Switch.ensures.depth c.push-in-Switch.ensures.table c.in_ok-switch_stmt-in-Switch.ensures.does c.pop-in-Switch.ensures.value c.pop-in-Switch.ensures.depth c.pop-in-Switch.ensures.table c.so_far-before.ensures.flaws c.so_far-before.ensures.declared c.so_far-before.ensures.lost (c.len.ensures ∙ lemma.same_length c.in-Switch.cs c.as_slice.result.now c.as_slice.ensures.value) c.in_ok-told_many-in-Switch.ensures.told
 
 pub stmt-switch_stmt-requires : goal.stmt-switch_stmt-requires
 stmt-switch_stmt-requires t c =

@@ -1,4 +1,4 @@
-use Rattle.std.proofs.Common.{arith, refl, sym, subst}
+use Rattle.std.proofs.Common.{arith, ◌∙◌, refl, sym, subst}
 use Rattle.go_callee.specs.Words.{types_of}
 use Rattle.go_scopes.specs.EnvView.{table_of}
 use Rattle.go_simple.specs.AroundView.{ResultsBelow}
@@ -28,7 +28,7 @@ end-requires c = record { depth = let d = c.in_ok-begin.ensures.depth in let e =
 pub returns-in-Ok : goal.returns-in-Ok
 returns-in-Ok c = record {
   done = λ w o r.
-      function_done w c.args.head c.results_of.result c.args.walk.now c.begin.new.walk c.function_body.new.walk c.end.new.walk c.args.flaws.now.items c.function_body.new.flaws.items c.in-Ok.stmts.items c.end.result o r
+      function_done w c.args.head c.results_of.result c.as_slice.result.now c.args.walk.now c.begin.new.walk c.function_body.new.walk c.end.new.walk c.args.flaws.now.items c.function_body.new.flaws.items c.in-Ok.stmts.items c.end.result (c.as_slice.ensures.value ∙ c.new-none.ensures.items) o r
       (λ ts k. c.in_ok-begin.ensures.value ts w k (r.each ts k)) c.in_ok-begin.ensures.table c.results_of.ensures.value c.in-Ok.ensures.does c.end.ensures.func c.end.ensures.scopes c.end.ensures.table c.end.ensures.next;
   depth = let d = c.in_ok-begin.ensures.depth in let e = c.in-Ok.ensures.does.depth in let f = c.end.ensures.depth in omega (arith, d, e, f);
 }

@@ -1,12 +1,13 @@
 use Rattle.std.proofs.Common.{◌≡◌, ◌∙◌, sym, ap, List, map}
 use Rattle.std.proofs.lemmas.List.{length-map}
-use Rattle.std.specs.Prelude.{option_map}
+use Rattle.std.specs.Prelude.{Option, option_map}
 use Rattle.go_callee.specs.Words.{types_of}
 use Rattle.go_constants.proofs.GrowLemmas.{grows_on, same_walk}
 use Rattle.go_items.specs.ParamView.{grouped_view}
 use Rattle.go_items.specs.declared.param.Grouped.{Grouped}
 use Rattle.go_packages.specs.Signature as go
-use Rattle.go_packages.specs.Signature.{type_of_param}
+use Rattle.go_packages.specs.Functions.{too_far}
+use Rattle.go_packages.specs.Signature.{SigTypes, type_of_param}
 use Rattle.go_params.specs.Bound.{type_view}
 use Rattle.go_scopes.specs.EnvView.{table_of}
 use Rattle.go_signatures.specs.SigView.{sig_found}
@@ -19,13 +20,17 @@ use Rattle.go_heads.proofs.head.head_of.Goals as goal
 
 pub returns-clause-view : goal.returns-clause-view
 returns-clause-view c = λ ts k.
-    let w = walk_outside c.args.env.now in
+    let a = c.args.env.now in
+    let w = walk_outside a in
     let s = sig_view c.args.sig.now in
     let b = c.sig_alone.new.env in
     let d = c.types_alone.new.env in
-    made_same c.args.at c.in_ok-name.name _ (map grouped_view c.in_ok-params.params.items) _ (option_map (sig_found ts) c.in_ok-found.found) (go.sig_types w s) c.in_ok-is_named.is_named _ (block_view c.args.b.now) c.in_ok-name.ensures.value
-    c.in_ok-params.ensures.value
-    (sig_kept (table_of b) ts c.in_ok-found.found (keeps_before b d ts c.in_ok-types.ensures.grows k) c.in_ok-found.ensures.within ∙ c.in_ok-found.ensures.types) c.in_ok-is_named.ensures.value
+    let found = option_map (sig_found ts) c.in_ok-found.found in
+    let same : found ≡ go.sig_types w s = sig_kept (table_of b) ts c.in_ok-found.found (keeps_before b d ts c.in_ok-types.ensures.grows k) c.in_ok-found.ensures.within ∙ c.in_ok-found.ensures.types in
+    let here : walk_outside d ≡ w = same_walk a d (grows_on a b d c.in_ok-found.ensures.grows c.in_ok-types.ensures.grows) in
+    made_same c.args.at c.in_ok-name.name _ (map grouped_view c.in_ok-params.params.items) _ found (go.sig_types w s) c.in_ok-is_named.is_named _ c.too_far-own_far.result _ (block_view c.args.b.now) c.in_ok-name.ensures.value
+    c.in_ok-params.ensures.value same c.in_ok-is_named.ensures.value
+    (c.too_far-own_far.ensures.value ts ∙ ap (λ (v : Walk). too_far c.args.far v c.args.at c.args.n.now found) here ∙ ap (λ (o : Option SigTypes). too_far c.args.far w c.args.at c.args.n.now o) same)
 
 pub returns-clause-ready : goal.returns-clause-ready
 returns-clause-ready c =

@@ -7,6 +7,6 @@ use Rattle.go_heads.proofs.heads.and_decl.Goals as goal
 pub returns-in_ok-and_function-in-None : goal.returns-in_ok-and_function-in-None
 returns-in_ok-and_function-in-None c = record {
   value = λ rest.
-      subst (λ (d : t.Decl). HeadsLeft c.args.env.now c.and_function.new.env c.args.heads.now.items c.and_function.new.heads.items rest (d ∷ rest))
+      subst (λ (d : t.Decl). HeadsLeft c.args.far c.args.env.now c.and_function.new.env c.args.heads.now.items c.and_function.new.heads.items rest (d ∷ rest))
       (sym (function_seen c.args.d.now c.deref.result.now c.in-Func.receiver c.in-Func.n c.in-Func.sig c.in-Func.b c.deref.ensures c.in-Func.is c.in-None.is)) (c.in_ok-and_function-in-None.ensures.value rest);
 }

@@ -5,4 +5,4 @@ use Rattle.go_heads.specs.HeadView.{HeadsLeft}
 use Rattle.go_heads.proofs.heads.heads.Given as goal
 
 abbrev pub invariant-loop-file : goal.invariant-loop-file
-invariant-loop-file l = HeadsLeft l.initial.env l.env [] l.all.items (decls_of (map file_view (drop l.file-index l.files))) (decls_of (map file_view l.files))
+invariant-loop-file l = HeadsLeft l.far l.initial.env l.env [] l.all.items (decls_of (map file_view (drop l.file-index l.files))) (decls_of (map file_view l.files))

@@ -39,7 +39,7 @@ returns-in-Ok-given_consts c =
     (λ out.
     subst (λ (x : t.Exprs). Does (λ w. const_spec at (counting n w) names ty x w) a h f0 f2 out out) c.values_of-values.ensures.value
     (spec_does at n names ty (map expr_view c.values_of-values.result.now) s (raws_view (types_of d.env) raws) a c.count.new.walk c.told_source.new.walk d c.count_none.new.walk c.use_source.new.walk g h f0 f1 f2 out (no_iota (env_of a.env) c.requires.plain) c.count.ensures.value c.count.ensures.env c.count.ensures.table
-    c.in_ok-s.ensures.view c.in_ok-s.ensures.below c.in_ok-s.ensures.told c.in_ok-s.ensures.stays c.in-Ok.ensures.view c.in-Ok.ensures.stays c.count_none.ensures.env c.count_none.ensures.table c.count_none.ensures.kept c.count_none.ensures.numbers c.in-Ok-use_source.ensures.moves c.use_source.ensures.env c.in-Ok-all_used.ensures.moves
+    c.in_ok-s.ensures.view c.in_ok-s.ensures.below c.in_ok-s.ensures.told c.in_ok-s.ensures.stays c.in-Ok.ensures.view c.in-Ok.ensures.stays c.count_none.ensures.env c.count_none.ensures.table c.count_none.ensures.kept c.count_none.ensures.lost c.count_none.ensures.numbers c.in-Ok-use_source.ensures.moves c.use_source.ensures.env c.in-Ok-all_used.ensures.moves
     c.all_used.ensures.env (subst (λ (x : TypeTable). Does (const_given (names_of g.env) at (spec_view (types_of g.env) s) names (raws_view (places x) raws)) g h f1 f2 out out) table (c.in-Ok-given_consts.ensures.does out)))) in
     record {
       does = done;

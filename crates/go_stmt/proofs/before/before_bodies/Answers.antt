@@ -21,7 +21,7 @@ pub returns : goal.returns
 returns c =
     let ds = decls_of (map file_view c.args.files.now) in
     let old = map flaw_view c.args.flaws.now.items in
-    let more = decls_told 0 (outside (known_in ds)) ds in
+    let more = decls_told (outside (known_in ds)) ds in
     let grows = c.in_ok-heads.ensures.grows in
     let there = c.in_ok-hidden.ensures.within in
     record {

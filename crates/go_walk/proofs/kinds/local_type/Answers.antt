@@ -30,7 +30,7 @@ returns-clause-value c = λ ts.
     let u = tree_of (places (table_of w.env)) c.args.of in
     c.in_ok-name.ensures.value ts
     ∙ declares_type c.args.n.now u (tree_of (places (table_of c.new_type.new.env)) c.in_ok-ty.ty) (names (table_of w.env)) (names (table_of c.new_type.new.env)) (visible e) (visible f)
-    w.next w.next_label (map (var_of ts) w.vars.items) w.declared.items w.used.items c.in_ok-ty.ensures.tree (ap (λ (g : Env). g.named_types) c.in_ok-ty.ensures.env) (ap visible c.in_ok-ty.ensures.env ∙ types_same (names (table_of c.args.walk.now.env) ++ named_for c.args.n.now.text (underlying (names (table_of c.args.walk.now.env)) (tree_of (places (table_of c.args.walk.now.env)) c.args.of)) ∷ []) e)
+    w.next w.next_label (map (var_of ts) w.vars.items) w.declared.items w.used.items w.lost c.in_ok-ty.ensures.tree (ap (λ (g : Env). g.named_types) c.in_ok-ty.ensures.env) (ap visible c.in_ok-ty.ensures.env ∙ types_same (names (table_of c.args.walk.now.env) ++ named_for c.args.n.now.text (underlying (names (table_of c.args.walk.now.env)) (tree_of (places (table_of c.args.walk.now.env)) c.args.of)) ∷ []) e)
 
 pub returns-clause-depth : goal.returns-clause-depth
 returns-clause-depth c = c.in_ok-name.ensures.depth ∙ ap (λ (e : Env). length e.blocks) c.in_ok-ty.ensures.env

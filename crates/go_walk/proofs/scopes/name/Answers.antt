@@ -19,7 +19,7 @@ returns-clause-value c = λ ts.
     let off : is_blank n.text ≡ false = sym c.is_blank.ensures.value ∙ c.if-is_blank.false in
     let named : env_of c.declare.new.self ≡ scopes.declared (bind_of n d) e =
     c.in_ok-declare.ensures.value ∙ ap (λ (x : List ℕ). scopes.declared (record { name = x; place = n.place; what = d }) e) c.in_ok-text.ensures.cases in
-    names_it e (env_of c.declare.new.self) (names (table_of w.env)) (names (table_of c.declare.new.self)) n d w.next w.next_label (map (var_of ts) w.vars.items) w.declared.items w.used.items
+    names_it e (env_of c.declare.new.self) (names (table_of w.env)) (names (table_of c.declare.new.self)) n d w.next w.next_label (map (var_of ts) w.vars.items) w.declared.items w.used.items w.lost
     c.requires.depth off (c.requires.missing ts) named (ap names c.declare.ensures.rest.0)
 
 pub returns-clause-depth : goal.returns-clause-depth
