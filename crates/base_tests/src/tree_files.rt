@@ -12,12 +12,20 @@ fn three_files(alloc: Global) -> Result<TreeFiles, NoMemory> {
     Ok(files)
 }
 
+// Whether a file is there with these bytes.
+fn holds(files: &TreeFiles, path: &str, bytes: &[u8]) -> bool {
+    match files.bytes(path) {
+        Some(found) => found == bytes,
+        None => false,
+    }
+}
+
 #[test]
 fn put_and_bytes(rt: HostRuntime) -> Result<(), Fail> {
     let mut files = three_files(rt.alloc())?;
     files.put("app/b.go", b"new")?;
-    assert_eq!(rt; files.bytes("app/b.go").ok_or("b")?, b"new".as_slice());
-    assert_eq!(rt; files.bytes("app/a.go").ok_or("a")?, b"aa".as_slice());
+    assert!(rt; holds(&files, "app/b.go", b"new"));
+    assert!(rt; holds(&files, "app/a.go", b"aa"));
     assert!(rt; files.bytes("app").is_none());
     Ok(())
 }
@@ -57,8 +65,8 @@ fn stores(rt: HostRuntime) -> Result<(), Fail> {
     let mut files = three_files(rt.alloc())?;
     files.store("out.js", b"script")?;
     files.store("app/a.go", b"")?;
-    assert_eq!(rt; files.bytes("out.js").ok_or("out")?, b"script".as_slice());
-    assert_eq!(rt; files.bytes("app/a.go").ok_or("a")?, b"".as_slice());
+    assert!(rt; holds(&files, "out.js", b"script"));
+    assert!(rt; holds(&files, "app/a.go", b""));
     Ok(())
 }
 
@@ -90,8 +98,8 @@ fn the_second_store_stops_after_two_bytes(rt: HostRuntime) -> Result<(), Fail> {
     files.fail(1, 2)?;
     files.store("out.js", b"old")?;
     assert_eq!(rt; files.store("out.js", b"script"), Err(StoreError::Failed));
-    assert_eq!(rt; files.bytes("out.js").ok_or("out")?, b"sc".as_slice());
+    assert!(rt; holds(&files, "out.js", b"sc"));
     files.store("out.js", b"script")?;
-    assert_eq!(rt; files.bytes("out.js").ok_or("out")?, b"script".as_slice());
+    assert!(rt; holds(&files, "out.js", b"script"));
     Ok(())
 }
