@@ -5,6 +5,7 @@ ghost use Rattle.go_type.specs.Table.{size};
 ghost use Rattle.go_rules.specs.Ready.{HasPredeclared};
 ghost use Rattle.go_answers.specs.Below.{OperandBelow};
 
+use crate::parts::first_table;
 use gj_base::{NoMemory, Place};
 use go_answers::answer::{Found, Operand};
 use go_answers::gone::{gone_operand, gone_pending};
@@ -70,15 +71,6 @@ fn told_match(sides: Match) -> Told {
         },
         Match::Differ => Told::Differ,
     }
-}
-
-// The table of the predeclared types.
-#[tactic(auto, using(go_answers::proofs::TableBegins::begins))]
-fn first_table(alloc: Global) -> Result<TypeTable, NoMemory>
-    ensures begins { IfOk result (λ t. HasPredeclared t) }
-    ensures size { IfOk result (λ t. size t ≡ 20) }
-{
-    TypeTable::new(alloc)
 }
 
 // What stands on one side of an operator.

@@ -1,17 +1,16 @@
 //! Rows from the examples of the Go specification (as of Go 1.17), "Arithmetic operators", "Logical
 //! operators", "Constant expressions", "Assignability", "Representability".
 
-ghost use Rattle.std.specs.Prelude.{◌≡◌, ◌<◌, IfOk};
+ghost use Rattle.std.specs.Prelude.{◌≡◌};
 ghost use Rattle.go_type.specs.Table.{size};
 ghost use Rattle.go_rules.specs.Ready.{HasPredeclared};
 ghost use Rattle.go_answers.specs.Below.{AnswerBelow};
 
+use crate::parts::{first_table, int, variable};
 use gj_base::{NoMemory, Op, Place};
 use go_answers::answer::{Answer, Flaws};
 use go_answers::gone::gone_answer;
-use go_answers::rule::made;
 use go_const::Const;
-use go_nodes::leaf;
 use go_operands::boxes::{Waiting, answer_box, both_known, both_waiting, gone_box};
 use go_operands::operand::no_left;
 use go_operands::part::{Part, gone_part, part_box};
@@ -82,32 +81,6 @@ fn told_answer(answer: Answer) -> Told {
     let told = seen(&answer);
     gone_answer(answer);
     told
-}
-
-// The table of the predeclared types.
-#[tactic(auto, using(go_answers::proofs::TableBegins::begins))]
-fn first_table(alloc: Global) -> Result<TypeTable, NoMemory>
-    ensures begins { IfOk result (λ t. HasPredeclared t) }
-    ensures size { IfOk result (λ t. size t ≡ 20) }
-{
-    TypeTable::new(alloc)
-}
-
-// What a variable of one of the types holds.
-fn variable(alloc: Global, ty: TypeId) -> Result<Answer, NoMemory>
-    requires { ty.0 < 20 }
-    ensures { IfOk result (λ a. AnswerBelow 20 a) }
-{
-    match leaf::zero(alloc, ty) {
-        Ok(core) => Ok(made(core, ty)),
-        Err(error) => Err(error),
-    }
-}
-
-fn int(z: i128) -> Answer
-    ensures { AnswerBelow 20 result }
-{
-    Answer::Constant(Const::Int(z))
 }
 
 fn truth(b: bool) -> Answer

@@ -6,7 +6,8 @@ ghost use Rattle.go_type.specs.Table.{size};
 ghost use Rattle.go_rules.specs.Ready.{HasPredeclared};
 ghost use Rattle.go_answers.specs.Below.{AnswerBelow};
 
-use crate::sides::{AT, BYTE, Given, LEFT, RIGHT, Told, first_table, part, told_answer};
+use crate::parts::first_table;
+use crate::sides::{AT, BYTE, Given, LEFT, RIGHT, Told, part, told_answer};
 use gj_base::{NoMemory, Op};
 use go_answers::answer::Answer;
 use go_answers::gone::gone_answer;

@@ -1,6 +1,6 @@
 //! What stands on the sides of an operator, and what a node is told to be.
 
-ghost use Rattle.std.specs.Prelude.{◌≡◌, ◌<◌, IfOk};
+ghost use Rattle.std.specs.Prelude.{◌<◌, IfOk};
 ghost use Rattle.go_type.specs.Table.{size};
 ghost use Rattle.go_rules.specs.Ready.{HasPredeclared};
 ghost use Rattle.go_answers.specs.Below.{AnswerBelow};
@@ -84,14 +84,6 @@ pub fn told_answer(answer: Answer) -> Told {
     let told = seen(&answer);
     gone_answer(answer);
     told
-}
-
-// The table of the predeclared types.
-#[tactic(auto, using(go_answers::proofs::TableBegins::begins))]
-pub fn first_table(alloc: Global) -> Result<TypeTable, NoMemory>
-    ensures begins { IfOk result (λ t. HasPredeclared t) }
-{
-    TypeTable::new(alloc)
 }
 
 // What stands on one side of an operator.
