@@ -25,7 +25,7 @@ use Rattle.go_statements.specs.Walk as go
 use Rattle.go_statements.specs.Walk.{Did, did, faulty}
 use Rattle.go_statements.specs.Assign.{assign, update, step, define}
 use Rattle.go_statements.specs.Declare as declare
-use Rattle.go_statements.specs.Statements.{stmt, expression, returned_in, branch, not_built, spared}
+use Rattle.go_statements.specs.Statements.{stmt, expression, returned_in, branch, not_built, spared, standing}
 use Rattle.go_walk.specs.declared.walk.Walk.{Walk}
 use Rattle.go_valued.specs.Outcome.{Does}
 use Rattle.go_branch.specs.Leaving.{leaving}
@@ -65,7 +65,7 @@ module _ (s : Stmt) (x : StmtForm) (a : go.Around) (m n : Walk) (f0 f1 : List Fl
       (subst (λ (zs : List Expr). Does (λ w. spared w (define s.place (exprs_of (map expr_view zs)) (exprs_of (map expr_view d.items)) w)) m n f0 f1 o0 o1) q
       (subst (λ (zs : List Expr). Does (λ w. spared w (define s.place (exprs_of (map expr_view xs)) (exprs_of (map expr_view zs)) w)) m n f0 f1 o0 o1) u h))
 
-  pub decl_arm : (d : Decl) → x ≡ form.Decl d → Does (λ w. spared w (declare.decl (decl_view d) w)) m n f0 f1 o0 o1 → Does (stmt (stmt_view s) a) m n f0 f1 o0 o1
+  pub decl_arm : (d : Decl) → x ≡ form.Decl d → Does (λ w. standing (spared w (declare.decl (decl_view d) w))) m n f0 f1 o0 o1 → Does (stmt (stmt_view s) a) m n f0 f1 o0 o1
   decl_arm d e h = as_form (t.DeclStmt s.place (decl_view d)) (view.view_Decl s x d p e) h
 
   pub return_arm : (b : Vec Expr Global) (xs : List Expr) → x ≡ form.Return b → xs ≡ b.items → Does (returned_in s.place a.results a.named_results (exprs_of (map expr_view xs))) m n f0 f1 o0 o1 → Does (stmt (stmt_view s) a) m n f0 f1 o0 o1

@@ -40,7 +40,7 @@ use Rattle.go_statements.specs.Walk.{Did, pushed, popped, within, uses, uses_all
 use Rattle.go_statements.specs.Expressions.{condition, core_of}
 use Rattle.go_statements.specs.Labels.{label_of}
 use Rattle.go_statements.specs.Statements as statements
-use Rattle.go_statements.specs.Statements.{Clauses, if_did, for_did, post_did, switch_did, limited, with_target, unlabeled, condition_core, condition_told, condition_uses, clauses_limit, is_default, case_tests, next_label, stmt, maybe, block, stmts, clause_stmts, clauses}
+use Rattle.go_statements.specs.Statements.{Clauses, if_did, for_did, post_did, switch_did, limited, with_target, unlabeled, condition_core, condition_told, condition_uses, clauses_limit, is_default, case_tests, next_label, standing, stmt, maybe, block, stmts, clause_stmts, clauses}
 use Rattle.go_walk.specs.WalkView.{walk_of, depth, Keeps}
 use Rattle.go_walk.specs.declared.parts.Before.{Before}
 use Rattle.go_walk.specs.declared.walk.Walk.{Walk}
@@ -109,7 +109,7 @@ module _ (ar : Around) (gs : List go.Target) where
   scoped_does onward ss m p q n f0 f1 o0 o1 r pw pd pt h nw nd nt = scope (clause_stmts onward ss) None m p q n f0 f1 o0 o1 r pw pd pt h nw nd nt
 
   module _ (s : Stmt) (x : StmtForm) (label : Option (List ℕ)) (m n : Walk) (f0 f1 : List Flaw) (o0 o1 : List CoreStmt) where
-    pub block_arm : (b : Block) → x ≡ s.form.value → x ≡ form.Block b → Does (block (block_view b) (here m None)) m n f0 f1 o0 o1 → Does (stmt (stmt_view s) (here m label)) m n f0 f1 o0 o1
+    pub block_arm : (b : Block) → x ≡ s.form.value → x ≡ form.Block b → Does (λ w. standing (block (block_view b) (here m None) w)) m n f0 f1 o0 o1 → Does (stmt (stmt_view s) (here m label)) m n f0 f1 o0 o1
     block_arm b p e h = as_stmt (stmt_view s) (t.BlockStmt s.place (block_view b)) (here m label) m n f0 f1 o0 o1 (view_Block s x b p e) h
 
     pub label_arm : (l : Name) (r : Stmt) (name : Option (List ℕ)) → x ≡ s.form.value → x ≡ form.Labeled l r → name ≡ label_of l → Does (stmt (stmt_view r) (here m name)) m n f0 f1 o0 o1 → Does (stmt (stmt_view s) (here m label)) m n f0 f1 o0 o1

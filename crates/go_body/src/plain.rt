@@ -20,6 +20,7 @@ use go_core::statement::{BranchKind, CoreStmt};
 use go_define::top::define;
 use go_labels::Targets;
 use go_leaf::spare::spare;
+use go_leaf::stand::stand;
 use go_local::decl::decl;
 use go_simple::Around;
 use go_simple::expression::expression;
@@ -71,8 +72,10 @@ pub fn plain(
         StmtForm::Decl(d) => {
             let names = walk.declared.len();
             let before = flaws.len();
+            let done = out.len();
             decl(walk, flaws, out, d)?;
             spare(walk, flaws.as_slice(), names, before)?;
+            stand(out, done)?;
             Ok(())
         }
         StmtForm::Return(ys) => {

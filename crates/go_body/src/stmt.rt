@@ -36,6 +36,7 @@ use go_leaf::leaf::{
 use go_leaf::made::{
     Made, after, and_choice, and_loop, and_made, and_switch, enter, gone_made, made_nothing,
 };
+use go_leaf::stand::stand;
 use go_leaf::tagged::{Tagged, begin_tag, is_default, tested};
 use go_nodes::gone::gone_expr;
 use go_simple::Around;
@@ -62,7 +63,9 @@ pub fn stmt(
 {
     match &*s.form {
         StmtForm::Block(b) => {
+            let done = out.len();
             block(walk, flaws, out, around, targets, b)?;
+            stand(out, done)?;
             Ok(())
         }
         StmtForm::If(init, x, b, other) => {

@@ -1,5 +1,6 @@
 pub mod Forms
 pub mod Made
 pub mod Spared
+pub mod Standing
 pub mod Tags
 pub mod Whole

@@ -9,5 +9,6 @@
 pub mod leaf;
 pub mod made;
 pub mod spare;
+pub mod stand;
 pub mod tagged;
 pub mod whole;

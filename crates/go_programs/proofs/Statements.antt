@@ -1,5 +1,5 @@
 -- Statements of which nothing is told have cores that have a meaning.
-use Rattle.std.proofs.Common.{◌≡◌, ◌&&◌, not, ℕ, suc, List, [], refl, sym, subst, ap, ◌∙◌, Bool, true, false, Option, Some, None, if◌then◌else◌}
+use Rattle.std.proofs.Common.{◌≡◌, ◌&&◌, not, ℕ, suc, List, [], ◌∷◌, refl, sym, subst, ap, ◌∙◌, Bool, true, false, Option, Some, None, if◌then◌else◌}
 use Rattle.gj_base.specs.declared.place.Place.{Place}
 use Rattle.go_const.specs.declared.constant.Const.{Const}
 use Rattle.go_const.specs.declared.constant.Const.TheVariants as form
@@ -7,6 +7,7 @@ use Rattle.go_syntax.specs.Tree as t
 use Rattle.go_type.specs.Tree as ty
 use Rattle.go_type.specs.Tree.{Ty, Tys}
 use Rattle.go_type.specs.Named.{NamedTy}
+use Rattle.go_core.specs.CoreTree as core
 use Rattle.go_core.specs.CoreTree.{Var, CoreProgram}
 use Rattle.go_core.specs.TypeOf.{var_type}
 use Rattle.go_core.specs.SoundNode as node
@@ -21,7 +22,7 @@ use Rattle.go_statements.specs.Expressions.{value_alone, core_of, type_of, answe
 use Rattle.go_statements.specs.Assign.{define, count_of, same_number, several_right, first_right, assign_by, update_left, update, left_of, one_, step_op, step, left_use, left_uses, is_name, is_bare, fresh_use, fresh_uses, first_place, Left, left_blank, left_place, left_wrong, miscounted}
 use Rattle.go_statements.specs.Declare.{decl}
 use Rattle.go_statements.specs.Labels.{label_of}
-use Rattle.go_statements.specs.Statements.{called_in, expression, if_did, with_target, unlabeled, for_did, post_did, condition_uses, next_label, Clauses, falls, is_last, is_default, switch_did, stmt, maybe, block, stmts, clause_stmts, clauses, parts_typed, limited, spared}
+use Rattle.go_statements.specs.Statements.{called_in, expression, if_did, with_target, unlabeled, for_did, post_did, condition_uses, next_label, Clauses, falls, is_last, is_default, switch_did, stmt, maybe, block, stmts, clause_stmts, clauses, parts_typed, limited, spared, at_least_one, standing}
 use Rattle.go_typing.specs.Answer.{Part}
 use Rattle.gj_base.specs.declared.kind.Op.{Op}
 use Rattle.go_sound.specs.Added.{TypeIsSet}
@@ -33,7 +34,7 @@ use Rattle.go_sound.proofs.GoesOnSteps.{stays, then_on, scopes_left, within_on, 
 use Rattle.go_sound.proofs.GoesOnBodies.{performed_walk, condition_uses_on, next_label_on, if_on, for_on, post_on, switch_on, stmt_on, maybe_on, block_on, stmts_on, clause_on, clauses_on, blocks_leave_scopes}
 use Rattle.go_programs.specs.Grammar.{IsSimple, StmtOfGrammar, MaybeOfGrammar, BlockOfGrammar, StmtsOfGrammar, ClausesOfGrammar}
 use Rattle.go_programs.specs.SoundStatements.{Holds, StatementsAreSound}
-use Rattle.go_programs.proofs.Words.{at_vars, after_vars, one_of_three, two_of_three}
+use Rattle.go_programs.proofs.Words.{at_vars, after_vars, Extends, one_of_three, two_of_three}
 use Rattle.go_programs.proofs.Ready.{Adds, State, Like, ready_like, adds_like, adds_then, like_uses_all, type_still, state_like, ready_around, holds_part, names_of, state_on, state_later, state_pushed, holds_inside, Done, Says, says, done_none, done_then, done_within}
 use Rattle.go_programs.proofs.Here.{any_there}
 use Rattle.go_programs.proofs.Stores.{assign_done, update_done, step_done}
@@ -277,6 +278,27 @@ module _ (p : CoreProgram) where
   before_spared : (a : node.Around) (w : Walk) (d : Did) → Holds p a.declarable w (spared w d).walk → Holds p a.declarable w d.walk
   before_spared a w d k = record { variables = k.variables; further = k.further; names_kept = k.names_kept }
 
+  -- what does nothing has a meaning, and declares nothing
+  stands_sound : (a : node.Around) (vs : List Var) (ss : List core.Stmt) → SoundStmts p (at_vars a vs) (body ss) → SoundStmts p (at_vars a vs) (body (at_least_one ss))
+  stands_sound a vs [] h = (tt, tt)
+  stands_sound a vs (s ∷ ss) h = h
+
+  stands_vars : (vs : List Var) (ss : List core.Stmt) → after_vars (at_least_one ss) vs ≡ after_vars ss vs
+  stands_vars vs [] = refl
+  stands_vars vs (s ∷ ss) = refl
+
+  standing_done : (a : node.Around) (vs : List Var) (w : Walk) (d : Did) → Done p a vs w d → Done p a vs w (standing d)
+  standing_done a vs w d h = record {
+    is_sound = stands_sound a vs d.core h.is_sound;
+    extends = subst (λ (us : List Var). Extends w.next vs us) (sym (stands_vars vs d.core)) h.extends;
+    ready = subst (λ (us : List Var). IsReady p (at_vars a us) d.walk) (sym (stands_vars vs d.core)) h.ready;
+    before = h.before;
+    adds = h.adds;
+  }
+
+  before_standing : (a : node.Around) (w : Walk) (d : Did) → Holds p a.declarable w (standing d).walk → Holds p a.declarable w d.walk
+  before_standing a w d k = record { variables = k.variables; further = k.further; names_kept = k.names_kept }
+
   -- ---- the whole
 
   mutual
@@ -288,8 +310,10 @@ module _ (p : CoreProgram) where
     stmt_done (t.AssignStmt at xs None ys) o a b vs w s k h = assign_done p a vs b w s at xs ys o.2 h
     stmt_done (t.AssignStmt at xs (Some op) ys) o a b vs w s k h = update_done p a vs b w s at op xs ys o.0 o.1 o.2 h
     stmt_done (t.DefineStmt at xs ys) o a b vs w s k h = spared_done a vs w (define at xs ys w) (define_done p a vs b w s at xs ys o.1 (before_spared a w (define at xs ys w) k) h)
-    stmt_done (t.DeclStmt at d) o a b vs w s k h = spared_done a vs w (decl d w) (decl_done p a d o vs b w s (before_spared a w (decl d w) k) h)
-    stmt_done (t.BlockStmt at x) o a b vs w s k h = block_done x o a (unlabeled b) vs w (relabeled p a vs b None w s) k h
+    stmt_done (t.DeclStmt at d) o a b vs w s k h =
+        standing_done a vs w (spared w (decl d w)) (spared_done a vs w (decl d w) (decl_done p a d o vs b w s (before_spared a w (decl d w) (before_standing a w (spared w (decl d w)) k)) h))
+    stmt_done (t.BlockStmt at x) o a b vs w s k h =
+        standing_done a vs w (block x (unlabeled b) w) (block_done x o a (unlabeled b) vs w (relabeled p a vs b None w s) (before_standing a w (block x (unlabeled b) w) k) h)
     stmt_done (t.IfStmt at init x bl other) o a b vs w s k h =
         if_done at init x bl other a b (λ us v. maybe_done init o.0 a (unlabeled b) us v) o.1 (λ us v. block_done bl o.2 a (unlabeled b) us v) (λ us v. maybe_done other o.3 a (unlabeled b) us v) vs w s k h
     stmt_done (t.ForStmt at init x post bl) o a b vs w s k h =

@@ -1,11 +1,11 @@
 -- Rows by hand: control. Go specification (as of Go 1.17), "If statements", "For statements", "Switch statements",
 -- "Break statements", "Continue statements", "Fallthrough statements", "Return statements", "Terminating statements".
-use Rattle.std.specs.Prelude.{◌≡◌, [], ◌∷◌, true, Some, None, codes}
+use Rattle.std.specs.Prelude.{◌≡◌, [], ◌∷◌, true, false, Some, None, codes}
 use Rattle.gj_base.specs.declared.kind.Op.TheVariants as operator
 use Rattle.go_syntax.specs.Tree as t
 use Rattle.go_type.specs.Tree as ty
 use Rattle.go_typing.specs.RowWords.{at, name, num, str, two, exprs, call, int, one_type, two_types, fault, named_fault}
-use Rattle.go_statements.specs.RowWords.{block, id, clause, told_in, told, clauses_like}
+use Rattle.go_statements.specs.RowWords.{block, id, clause, spec, told_in, told, clauses_like}
 
 pub record RowsControl : Type 0 where
   -- conditions (86)
@@ -189,6 +189,20 @@ pub record RowsControl : Type 0 where
   pub no_default : told_in (one_type int) (block 0 ((t.SwitchStmt (at 2) t.NoStmt (t.AnExpr (name (codes "i") 9)) (clause 13 ((num (codes "4") 18) ∷ []) ((t.ReturnStmt (at 21) (exprs ((num (codes "4") 28) ∷ []))) ∷ []) t.NoClauses)) ∷ []) 32) ≡ fault 32 87 ∷ []
   -- `{ L: for { for { break L } } }`
   pub labeled_break : told_in (one_type int) (block 0 ((t.LabeledStmt (at 2) (id (codes "L") 2) (t.ForStmt (at 5) t.NoStmt t.NoExpr t.NoStmt (block 9 ((t.ForStmt (at 11) t.NoStmt t.NoExpr t.NoStmt (block 15 ((t.BreakStmt (at 17) (Some (id (codes "L") 23))) ∷ []) 25)) ∷ []) 27))) ∷ []) 29) ≡ fault 29 87 ∷ []
+  -- `{ return 4; ; }`
+  pub empty_after_return : told_in (one_type int) (block 0 ((t.ReturnStmt (at 2) (exprs ((num (codes "4") 9) ∷ []))) ∷ (t.EmptyStmt (at 12)) ∷ []) 14) ≡ []
+  -- `{ { return 4 } }`
+  pub block_that_returns : told_in (one_type int) (block 0 ((t.BlockStmt (at 2) (block 2 ((t.ReturnStmt (at 4) (exprs ((num (codes "4") 11) ∷ []))) ∷ []) 13)) ∷ []) 15) ≡ []
+  -- `{ return 4; { } }`
+  pub block_after_return : told_in (one_type int) (block 0 ((t.ReturnStmt (at 2) (exprs ((num (codes "4") 9) ∷ []))) ∷ (t.BlockStmt (at 12) (block 12 ([]) 14)) ∷ []) 16) ≡ fault 16 87 ∷ []
+  -- `{ return 4; const x = 4 }`
+  pub constant_after_return : told_in (one_type int) (block 0 ((t.ReturnStmt (at 2) (exprs ((num (codes "4") 9) ∷ []))) ∷ (t.DeclStmt (at 12) (t.ConstDecl (at 12) (spec ((id (codes "x") 18) ∷ []) t.NoExpr ((num (codes "4") 22) ∷ []) t.NoValues))) ∷ []) 24) ≡ fault 24 87 ∷ []
+  -- `{ return 4; type T int }`
+  pub type_after_return : told_in (one_type int) (block 0 ((t.ReturnStmt (at 2) (exprs ((num (codes "4") 9) ∷ []))) ∷ (t.DeclStmt (at 12) (t.TypeDecl (at 12) (t.MoreTypes (id (codes "T") 17) false (name (codes "int") 19) t.NoTypes))) ∷ []) 23) ≡ fault 23 87 ∷ []
+  -- `{ return 4; var ( ) }`
+  pub no_variables_after_return : told_in (one_type int) (block 0 ((t.ReturnStmt (at 2) (exprs ((num (codes "4") 9) ∷ []))) ∷ (t.DeclStmt (at 12) (t.VarDecl (at 12) t.NoValues)) ∷ []) 20) ≡ fault 20 87 ∷ []
+  -- `{ if b { return 4 } else { return 6; { } } }`
+  pub block_after_return_in_else : told_in (one_type int) (block 0 ((t.IfStmt (at 2) t.NoStmt (name (codes "b") 5) (block 7 ((t.ReturnStmt (at 9) (exprs ((num (codes "4") 16) ∷ []))) ∷ []) 18) (t.AStmt (t.BlockStmt (at 25) (block 25 ((t.ReturnStmt (at 27) (exprs ((num (codes "6") 34) ∷ []))) ∷ (t.BlockStmt (at 37) (block 37 ([]) 39)) ∷ []) 41)))) ∷ []) 43) ≡ fault 43 87 ∷ []
   -- not built yet (0)
   -- `{ go h() }`
   pub go_statement : told (block 0 ((t.GoStmt (at 2) (call (name (codes "h") 5) [])) ∷ []) 9) ≡ fault 2 0 ∷ []

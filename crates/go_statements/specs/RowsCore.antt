@@ -39,4 +39,6 @@ pub record RowsCore : Type 0 where
   -- `{ return }`
   pub return_alone : core_of (block 0 ((t.ReturnStmt (at 2) (exprs ([]))) ∷ []) 9) ≡ core.return_ core.no_exprs ∷ []
   -- `{ const x = 4; type T int; i = x }`
-  pub constants_leave_nothing : core_of (block 0 ((t.DeclStmt (at 2) (t.ConstDecl (at 2) (spec ((id (codes "x") 8) ∷ []) t.NoExpr ((num (codes "4") 12) ∷ []) t.NoValues))) ∷ (t.DeclStmt (at 15) (t.TypeDecl (at 15) (t.MoreTypes (id (codes "T") 20) false (name (codes "int") 22) t.NoTypes))) ∷ (t.AssignStmt (at 27) (exprs ((name (codes "i") 27) ∷ [])) None (exprs ((name (codes "x") 31) ∷ []))) ∷ []) 33) ≡ core.store (core.to_place int (core.local_ 1) ∷ []) (args ((num_at int 4) ∷ [])) ∷ []
+  pub constants_do_nothing : core_of (block 0 ((t.DeclStmt (at 2) (t.ConstDecl (at 2) (spec ((id (codes "x") 8) ∷ []) t.NoExpr ((num (codes "4") 12) ∷ []) t.NoValues))) ∷ (t.DeclStmt (at 15) (t.TypeDecl (at 15) (t.MoreTypes (id (codes "T") 20) false (name (codes "int") 22) t.NoTypes))) ∷ (t.AssignStmt (at 27) (exprs ((name (codes "i") 27) ∷ [])) None (exprs ((name (codes "x") 31) ∷ []))) ∷ []) 33) ≡ core.sequence core.no_stmts ∷ core.sequence core.no_stmts ∷ core.store (core.to_place int (core.local_ 1) ∷ []) (args ((num_at int 4) ∷ [])) ∷ []
+  -- `{ { }; { i = 4 } }`
+  pub empty_block_does_nothing : core_of (block 0 ((t.BlockStmt (at 2) (block 2 ([]) 4)) ∷ (t.BlockStmt (at 7) (block 7 ((t.AssignStmt (at 9) (exprs ((name (codes "i") 9) ∷ [])) None (exprs ((num (codes "4") 13) ∷ []))) ∷ []) 15)) ∷ []) 17) ≡ core.sequence core.no_stmts ∷ core.store (core.to_place int (core.local_ 1) ∷ []) (args ((num_at int 4) ∷ [])) ∷ []

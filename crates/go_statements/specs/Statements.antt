@@ -42,6 +42,15 @@ and_places true ns ps = ps ++ map (λ n. n.place) ns
 abbrev pub spared : Walk → Did → Did
 spared w d = record { core = d.core; flaws = d.flaws; walk = record d.walk { used = and_places (has_unbuilt d.flaws) (drop (length w.declared) d.walk.declared) d.walk.used } }
 
+-- A statement that isn't empty stands in its list though it does nothing: a list ends in a terminating statement only where the
+-- last of its statements that aren't empty is one.
+abbrev pub at_least_one : List core.Stmt → List core.Stmt
+at_least_one [] = core.sequence core.no_stmts ∷ []
+at_least_one (s ∷ ss) = s ∷ ss
+
+abbrev pub standing : Did → Did
+standing d = record d { core = at_least_one d.core }
+
 -- ---- expression statements (93)
 
 abbrev pub count_types : Tys → ℕ
@@ -349,8 +358,8 @@ abbrev mutual
   stmt (t.AssignStmt at xs None ys) a w = assign at xs ys w
   stmt (t.AssignStmt at xs (Some op) ys) a w = update at op xs ys w
   stmt (t.DefineStmt at xs ys) a w = spared w (define at xs ys w)
-  stmt (t.DeclStmt at d) a w = spared w (decl d w)
-  stmt (t.BlockStmt at b) a w = block b (unlabeled a) w
+  stmt (t.DeclStmt at d) a w = standing (spared w (decl d w))
+  stmt (t.BlockStmt at b) a w = standing (block b (unlabeled a) w)
   stmt (t.IfStmt at init x b other) a w = within (if_did x (maybe init (unlabeled a)) (block b (unlabeled a)) (maybe other (unlabeled a))) w
   stmt (t.ForStmt at init x post b) a w = within (for_did x (maybe init (unlabeled a)) (post_did post (maybe post (unlabeled a))) (λ label. block b (with_target label true a))) w
   stmt (t.RangeStmt at xs is_new y b) a w = not_built at (t.RangeStmt at xs is_new y b) w

@@ -347,7 +347,7 @@ const CASES: [Case; 68] = [
 ];
 
 // A function as a whole: told where the declaration of each name in it is typed.
-const WHOLES: [Case; 5] = [
+const WHOLES: [Case; 13] = [
     Case {
         name: "no-return-beside-a-faulty-constant",
         source: "package main\n\nfunc f() int8 {\n\t_ = c\n}\n\nfunc main() {\n}\n\nconst c int8 = 300\n",
@@ -372,6 +372,46 @@ const WHOLES: [Case; 5] = [
         name: "no-return-where-a-variable-takes-a-constant",
         source: "package main\n\nfunc f() int8 {\n\tx := c\n\tx = 4\n\tprintln(x)\n}\n\nfunc main() {\n}\n\nconst c int8 = 30\n",
         told: "main.go:7:1: missing return\n",
+    },
+    Case {
+        name: "no-return-behind-an-empty-block",
+        source: "package main\n\nfunc f() int {\n\treturn 4\n\t{\n\t}\n}\n\nfunc main() {\n\tf()\n}\n",
+        told: "main.go:7:1: missing return\n",
+    },
+    Case {
+        name: "no-return-behind-a-constant",
+        source: "package main\n\nfunc f() int {\n\treturn 4\n\tconst c = 6\n}\n\nfunc main() {\n\tf()\n}\n",
+        told: "main.go:6:1: missing return\n",
+    },
+    Case {
+        name: "no-return-behind-a-type",
+        source: "package main\n\nfunc f() int {\n\treturn 4\n\ttype t int\n}\n\nfunc main() {\n\tf()\n}\n",
+        told: "main.go:6:1: missing return\n",
+    },
+    Case {
+        name: "no-return-behind-no-variables",
+        source: "package main\n\nfunc f() int {\n\treturn 4\n\tvar ()\n}\n\nfunc main() {\n\tf()\n}\n",
+        told: "main.go:6:1: missing return\n",
+    },
+    Case {
+        name: "no-return-behind-an-empty-block-in-else",
+        source: "package main\n\nfunc f(b bool) int {\n\tif b {\n\t\treturn 4\n\t} else {\n\t\treturn 6\n\t\t{\n\t\t}\n\t}\n}\n\nfunc main() {\n\tf(true)\n}\n",
+        told: "main.go:11:1: missing return\n",
+    },
+    Case {
+        name: "no-return-behind-a-type-in-a-clause",
+        source: "package main\n\nfunc f(b bool) int {\n\tswitch {\n\tcase b:\n\t\treturn 4\n\t\ttype t int\n\tdefault:\n\t\treturn 6\n\t}\n}\n\nfunc main() {\n\tf(true)\n}\n",
+        told: "main.go:11:1: missing return\n",
+    },
+    Case {
+        name: "return-before-empty-statements",
+        source: "package main\n\nfunc f() int {\n\treturn 4\n\t;\n}\n\nfunc main() {\n\tf()\n}\n",
+        told: "main.go:1:1: form not built yet\n",
+    },
+    Case {
+        name: "return-in-a-block",
+        source: "package main\n\nfunc f() int {\n\t{\n\t\treturn 4\n\t}\n}\n\nfunc main() {\n\tf()\n}\n",
+        told: "main.go:1:1: form not built yet\n",
     },
 ];
 

@@ -1,7 +1,7 @@
 use Rattle.std.proofs.Common.{arith, ◌∙◌, ap, refl, map, drop, List}
 use Rattle.go_answers.specs.AnswerView.{flaw_view}
 use Rattle.go_answers.specs.declared.answer.Flaw.{Flaw}
-use Rattle.go_statements.specs.Statements.{has_unbuilt}
+use Rattle.go_statements.specs.Statements.{has_unbuilt, spared}
 use Rattle.go_walk.specs.WalkView.{walk_of}
 use Rattle.go_leaf.specs.Spared.{with_spared}
 use Rattle.go_labels.specs.Left.{targets_of}
@@ -11,6 +11,7 @@ use Rattle.go_statements.specs.Assign.{define}
 use Rattle.go_statements.specs.Declare.{decl}
 use Rattle.go_syntax.specs.View.{expr_view, exprs_of, decl_view}
 use Rattle.go_leaf.proofs.SpareLemmas.{spared_does}
+use Rattle.go_leaf.proofs.StandLemmas.{standing_does}
 use Rattle.go_body.proofs.PlainLemmas as lemma
 use Rattle.go_body.proofs.plain.plain.Goals as goal
 
@@ -44,9 +45,9 @@ returns-in_ok-spare-in-Define c = record {
   does = λ label. lemma.define_arm c.args.s.now c.deref.result.now (around_of (types_of c.args.walk.now.env) c.args.around.now (targets_of c.args.targets.now) label) c.args.walk.now c.spare.new.walk c.args.flaws.now.items c.define.new.flaws.items c.args.out.now.items c.define.new.out.items c.deref.ensures c.in-Define.xs c.in-Define.ys c.as_slice-in-Define.result.now c.as_slice-in-Define-2.result.now c.in-Define.is c.as_slice-in-Define.ensures.value c.as_slice-in-Define-2.ensures.value (spared_does (define c.args.s.now.place (exprs_of (map expr_view c.as_slice-in-Define.result.now)) (exprs_of (map expr_view c.as_slice-in-Define-2.result.now))) c.args.walk.now c.define.new.walk c.spare.new.walk c.args.flaws.now.items c.define.new.flaws.items c.args.out.now.items c.define.new.out.items c.len-names.result c.len-before.result (let u = c.len-names.ensures in let v = c.args.walk.now.declared.ok.0 in omega (arith, u, v)) (let u = c.len-before.ensures in let v = c.args.flaws.now.ok.0 in omega (arith, u, v)) c.in_ok-define-in-Define.ensures.does c.spare.ensures.env (λ ts. c.in_ok-spare-in-Define.ensures.value ts ∙ ap (λ (fs : List Flaw). with_spared (has_unbuilt (map flaw_view (drop c.len-before.result fs))) c.len-names.result (walk_of ts c.define.new.walk)) c.as_slice-in-Define-3.ensures.value));
 }
 
-pub returns-in_ok-spare-in-Decl : goal.returns-in_ok-spare-in-Decl
-returns-in_ok-spare-in-Decl c = record {
-  does = λ label. lemma.decl_arm c.args.s.now c.deref.result.now (around_of (types_of c.args.walk.now.env) c.args.around.now (targets_of c.args.targets.now) label) c.args.walk.now c.spare-in-Decl.new.walk c.args.flaws.now.items c.decl.new.flaws.items c.args.out.now.items c.decl.new.out.items c.deref.ensures c.in-Decl.d c.in-Decl.is (spared_does (decl (decl_view c.in-Decl.d)) c.args.walk.now c.decl.new.walk c.spare-in-Decl.new.walk c.args.flaws.now.items c.decl.new.flaws.items c.args.out.now.items c.decl.new.out.items c.len-names-in-Decl.result c.len-before-in-Decl.result (let u = c.len-names-in-Decl.ensures in let v = c.args.walk.now.declared.ok.0 in omega (arith, u, v)) (let u = c.len-before-in-Decl.ensures in let v = c.args.flaws.now.ok.0 in omega (arith, u, v)) c.in_ok-decl-in-Decl.ensures.does c.spare-in-Decl.ensures.env (λ ts. c.in_ok-spare-in-Decl.ensures.value ts ∙ ap (λ (fs : List Flaw). with_spared (has_unbuilt (map flaw_view (drop c.len-before-in-Decl.result fs))) c.len-names-in-Decl.result (walk_of ts c.decl.new.walk)) c.as_slice-in-Decl.ensures.value));
+pub returns-in_ok-stand-in-Decl : goal.returns-in_ok-stand-in-Decl
+returns-in_ok-stand-in-Decl c = record {
+  does = λ label. lemma.decl_arm c.args.s.now c.deref.result.now (around_of (types_of c.args.walk.now.env) c.args.around.now (targets_of c.args.targets.now) label) c.args.walk.now c.spare-in-Decl.new.walk c.args.flaws.now.items c.decl.new.flaws.items c.args.out.now.items c.stand.new.out.items c.deref.ensures c.in-Decl.d c.in-Decl.is (standing_does (λ w. spared w (decl (decl_view c.in-Decl.d) w)) c.args.walk.now c.spare-in-Decl.new.walk c.args.flaws.now.items c.decl.new.flaws.items c.args.out.now.items c.decl.new.out.items c.stand.new.out.items c.len-done.result (let u = c.len-done.ensures in let v = c.args.out.now.ok.0 in omega (arith, u, v)) (spared_does (decl (decl_view c.in-Decl.d)) c.args.walk.now c.decl.new.walk c.spare-in-Decl.new.walk c.args.flaws.now.items c.decl.new.flaws.items c.args.out.now.items c.decl.new.out.items c.len-names-in-Decl.result c.len-before-in-Decl.result (let u = c.len-names-in-Decl.ensures in let v = c.args.walk.now.declared.ok.0 in omega (arith, u, v)) (let u = c.len-before-in-Decl.ensures in let v = c.args.flaws.now.ok.0 in omega (arith, u, v)) c.in_ok-decl-in-Decl.ensures.does c.spare-in-Decl.ensures.env (λ ts. c.in_ok-spare-in-Decl.ensures.value ts ∙ ap (λ (fs : List Flaw). with_spared (has_unbuilt (map flaw_view (drop c.len-before-in-Decl.result fs))) c.len-names-in-Decl.result (walk_of ts c.decl.new.walk)) c.as_slice-in-Decl.ensures.value)) c.in_ok-stand-in-Decl.ensures.core);
 }
 
 pub returns-in_ok-returned-in-Return : goal.returns-in_ok-returned-in-Return

@@ -18,6 +18,7 @@ use Rattle.go_cases.specs.declared.seen.ConstSet.{ConstSet}
 use Rattle.go_simple.specs.CaseView.{HasAll}
 use Rattle.go_walk.specs.WalkView.{walk_of}
 use Rattle.go_leaf.proofs.LeafLemmas as leaf
+use Rattle.go_leaf.proofs.StandLemmas.{standing_does}
 use Rattle.go_body.proofs.StmtLemmas as lemma
 use Rattle.go_body.proofs.SizeLemmas as size
 use Rattle.go_body.proofs.KeepLemmas as keep
@@ -25,9 +26,10 @@ use Rattle.go_body.proofs.LoopLemmas as loops
 use Rattle.go_body.proofs.SwitchLemmas as switch
 use Rattle.go_body.proofs.stmt.+stmts.Goals as goal
 
-pub stmt-returns-in_ok-block-in-Block-clause-does : goal.stmt-returns-in_ok-block-in-Block-clause-does
-stmt-returns-in_ok-block-in-Block-clause-does t c =
-    lemma.block_arm c.args.around.now (targets_of c.args.targets.now) c.args.s.now c.deref.result.now (option_map (λ x. x.now) c.args.label) c.args.walk.now c.block.new.walk c.args.flaws.now.items c.block.new.flaws.items c.args.out.now.items c.block.new.out.items c.in-Block.b c.deref.ensures c.in-Block.is c.in_ok-block-in-Block.ensures.does
+pub stmt-returns-in_ok-stand-in-Block-clause-does : goal.stmt-returns-in_ok-stand-in-Block-clause-does
+stmt-returns-in_ok-stand-in-Block-clause-does t c =
+    lemma.block_arm c.args.around.now (targets_of c.args.targets.now) c.args.s.now c.deref.result.now (option_map (λ x. x.now) c.args.label) c.args.walk.now c.block.new.walk c.args.flaws.now.items c.block.new.flaws.items c.args.out.now.items c.stand.new.out.items c.in-Block.b c.deref.ensures c.in-Block.is
+    (standing_does (block (block_view c.in-Block.b) (around_of (types_of c.args.walk.now.env) c.args.around.now (targets_of c.args.targets.now) None)) c.args.walk.now c.block.new.walk c.args.flaws.now.items c.block.new.flaws.items c.args.out.now.items c.block.new.out.items c.stand.new.out.items c.len-done.result (let u = c.len-done.ensures in let v = c.args.out.now.ok.0 in omega (arith, u, v)) c.in_ok-block-in-Block.ensures.does c.in_ok-stand-in-Block.ensures.core)
 
 pub stmt-returns-in_ok-if_stmt-in-If-clause-does : goal.stmt-returns-in_ok-if_stmt-in-If-clause-does
 stmt-returns-in_ok-if_stmt-in-If-clause-does t c =

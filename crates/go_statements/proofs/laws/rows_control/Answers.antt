@@ -94,6 +94,13 @@ returns _ = record {
     each_clause_returns = refl;
     no_default = refl;
     labeled_break = refl;
+    empty_after_return = refl;
+    block_that_returns = refl;
+    block_after_return = refl;
+    constant_after_return = refl;
+    type_after_return = refl;
+    no_variables_after_return = refl;
+    block_after_return_in_else = refl;
     go_statement = refl;
     defer_statement = refl;
   };

@@ -19,6 +19,7 @@ returns _ = record {
     branches = refl;
     switch_on_a_value = refl;
     return_alone = refl;
-    constants_leave_nothing = refl;
+    constants_do_nothing = refl;
+    empty_block_does_nothing = refl;
   };
 }
