@@ -40,21 +40,24 @@ def built(program, folder, name):
 
 
 def compiled(folder, name):
-    """Whether the compiler takes the program."""
-    words = ["go", "tool", "compile", "-lang=go1.17", "-o", os.devnull, os.path.join(folder, name, "main.go")]
-    return subprocess.run(words, env={**os.environ, "GOARCH": "386"}, stdout=subprocess.DEVNULL).returncode == 0
+    """The line of the first fault that the compiler tells, or nothing."""
+    words = ["go", "tool", "compile", "-lang=go1.17", "-o", os.devnull, "main.go"]
+    ran = subprocess.run(words, cwd=os.path.join(folder, name), env={**os.environ, "GOARCH": "386"}, stdout=subprocess.PIPE, text=True)
+    return int(ran.stdout.split(":")[1]) if ran.returncode else None
 
 
 def same_place(ours, theirs, strict):
     """Whether they tell the same line first; not strict, whether go/types tells ours at all."""
-    if theirs[0][1].startswith("syntax: ") or not strict:
-        return ours[0] in [line for line, _ in theirs] or theirs[0][1].startswith("syntax: ")
+    if theirs[0][1].startswith("syntax: "):
+        return True
+    if not strict:
+        return ours[0] in [line for line, _ in theirs]
     # own: an unused label is told only where its statement has no fault
     labels = [line for line, text in theirs if LABEL.match(text)]
     return ours[0] in labels + [min([line for line, text in theirs if not LABEL.match(text)], default=0)]
 
 
-def verdict(ours, theirs, strict, takes):
+def verdict(ours, theirs, strict, first_compiled):
     """How the two agree, or after a `!` how they differ."""
     if ours and ours[1] in [UNBUILT] + OURS:
         return "unbuilt, or ours alone"
@@ -64,10 +67,12 @@ def verdict(ours, theirs, strict, takes):
         return "both take it"
     if not ours:
         return "! go/types refuses it: " + theirs[0][1]
+    # go/types lets some branches pass that the compiler refuses
+    if theirs and same_place(ours, theirs, strict) or ours[0] == first_compiled():
+        return "both refuse it"
     if not theirs:
-        # go/types lets some branches pass that the compiler refuses
-        return "! go/types takes it: " + ours[1] if takes() else "both refuse it"
-    return "both refuse it" if same_place(ours, theirs, strict) else "! go/types tells another line: %s, not %s" % (theirs[0][1], ours[1])
+        return "! go/types takes it: " + ours[1]
+    return "! go/types tells another line: %s, not %s" % (theirs[0][1], ours[1])
 
 
 def main():
