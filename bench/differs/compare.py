@@ -14,8 +14,8 @@ import sys
 UNBUILT = "form not built yet"
 # ours alone: outside the profile, or a limit of our own
 OURS = ["not in the profile", "constant outside 128 bits", "wrong use of package main"]
-# what go/types alone refuses: a bound of its own for counts
-THEIRS = ["invalid shift count"]
+# what go/types alone refuses, or refuses for another reason: a bound of its own for counts, another thing named `main`
+THEIRS = ["invalid shift count", "cannot declare main"]
 LABEL = re.compile(r"label \w+ declared but not used")
 
 
