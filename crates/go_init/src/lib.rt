@@ -1,0 +1,7 @@
+//! The order in which package variables are set and `init` functions are called, as definitions.
+//!
+//! The Go Programming Language Specification (as of Go 1.17), "Package initialization":
+//! `specs/InitOrder.antt`.
+#![tactic(auto)]
+
+pub mod laws;
