@@ -3,11 +3,12 @@
 //! The Go Programming Language Specification (as of Go 1.17), "Calls", "Go statements", "Defer
 //! statements".
 
-ghost use Rattle.std.specs.Prelude.{◌≡◌, ℕ, [], ◌∷◌, List, Some, IfOk, OnOk, slice_get, take};
+ghost use Rattle.std.specs.Prelude.{◌≡◌, ℕ, [], ◌∷◌, List, Some, IfOk, OnOk, slice_get};
 ghost use Rattle.go_type.specs.Tree.{Ty};
-ghost use Rattle.go_type.specs.Table.{places};
+ghost use Rattle.go_type.specs.Table.{places, names};
 ghost use Rattle.go_core.specs.Calls as calls;
-ghost use Rattle.go_core.specs.CoreView.{program_view, var_of};
+ghost use Rattle.go_core.specs.CoreTree.{CoreProgram};
+ghost use Rattle.go_core.specs.CoreView.{func_view, program_view, var_of};
 ghost use Rattle.go_core.specs.Frames.{on_operands};
 ghost use Rattle.go_core.specs.Memory as cell;
 ghost use Rattle.go_values.specs.Seen.{scalar_of, value_of, values_of};
@@ -21,12 +22,12 @@ ghost use Rattle.go_call_steps.specs.Enters.{CalleeTaken, CallEnters, Enters, St
 use gj_base::NoMemory;
 use go_bindings::results::{weights, write_value};
 use go_core::node::Var;
-use go_core::program::Program;
-use go_entries::enter::{Entered, enter};
+use go_core::program::{Func, Program};
+use go_entries::enter::{Entered, enter, params_of, results_after};
 use go_entries::resolve::{Called, Ready, Resolved, resolve};
 use go_frame_steps::operands::{operand, operands};
 use go_operators::did::{Context, Stop};
-use go_operators::places::{size_of, weight_of};
+use go_operators::places::{size_of, sum, weight_of};
 use go_state::frame::{Frame, Invocation, Purpose};
 use go_state::stack::base_of;
 use go_values::memory::{Memory, read_cells};
@@ -105,23 +106,22 @@ pub fn go_step<'p, 'a>(
     entered(c, p, found, m)
 }
 
-// So many variables, or all of them where there are fewer.
-fn first_vars(vars: &[Var], count: usize) -> &[Var]
-    ensures value { result.now ≡ take count vars.now }
+// The size of what a function takes and gives.
+fn weights_of(c: &Context, func: &Func, count: usize) -> Result<u64, NoMemory>
+    ensures value { let ts = places c.now.table.now in IfOk result (λ n. (p : CoreProgram) (g : ℕ) → p.names ≡ names c.now.table.now → n ≡ calls.frame_weights p g (Some (func_view ts func.now)) count) }
 {
-    if count >= vars.len() {
-        return vars;
-    }
-    &vars[..count]
+    let taken = weights(c, params_of(func, count))?;
+    let given = weights(c, results_after(func, count))?;
+    sum(taken, given)
 }
 
-// The size of what a function takes.
-fn operand_weights(c: &Context, p: &Program, func: u64, count: usize) -> Result<u64, NoMemory>
+// The same by the function's number.
+fn frame_weights(c: &Context, p: &Program, func: u64, count: usize) -> Result<u64, NoMemory>
     requires { c.now.table.now ≡ p.now.types }
-    ensures value { IfOk result (λ n. (g : ℕ) → n ≡ calls.operand_weights (program_view p.now) g (slice_get (program_view p.now).funcs func) count) }
+    ensures value { IfOk result (λ n. (g : ℕ) → n ≡ calls.frame_weights (program_view p.now) g (slice_get (program_view p.now).funcs func) count) }
 {
     match p.funcs.items.as_slice().get(func as usize) {
-        Some(f) => weights(c, first_vars(f.vars.items.as_slice(), count)),
+        Some(f) => weights_of(c, f, count),
         None => Ok(0),
     }
 }
@@ -144,7 +144,7 @@ fn defer_ready<'p, 'a>(
     requires { c.now.table.now ≡ p.now.types }
     ensures value { (m : held.Memory) → let ts = places p.now.types in Goes (program_view p.now) ts result f.old f.new m m (λ g. calls.defer_resolved (program_view p.now) g (let r = ready.entry in calls.ready r.func r.bases.now r.row (values_of ts r.operands.now))) }
 {
-    let units = operand_weights(c, p, ready.func, ready.operands.len())?;
+    let units = frame_weights(c, p, ready.func, ready.operands.len())?;
     let call = Invocation::Invoke {
         func: ready.func,
         bases: ready.bases,

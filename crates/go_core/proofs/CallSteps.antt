@@ -251,7 +251,7 @@ module _ (p : CoreProgram) (sound : Sound p) (choices : List ℕ) (move : Move) 
         ) (1 + units)
 
     defers : (given : List Ty) (st : List Slot) (ts : List Task) (vs : List Value) → AreIn p w st vs → T st ts → (r : Resolved) → ResolvedTyped p w given r → KeepsWell p (call.defer_resolved p g r (with_ ts vs) below s)
-    defers given st ts vs h t (ready func bases row os) k = one_deferred st ts vs h t (invoke func bases row os) (k.0, given, k.1, k.2) (call.operand_weights p g (slice_get p.funcs func) (length os))
+    defers given st ts vs h t (ready func bases row os) k = one_deferred st ts vs h t (invoke func bases row os) (k.0, given, k.1, k.2) (call.frame_weights p g (slice_get p.funcs func) (length os))
     defers given st ts vs h t nil_function k = one_deferred st ts vs h t nothing_to_invoke tt 0
     defers given st ts vs h t nil_interface k = to_panic ts vs
     defers given st ts vs h t unresolved k = absurd k

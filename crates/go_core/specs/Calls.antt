@@ -196,17 +196,17 @@ module _ (p : CoreProgram) (g : ℕ) where
   weights [] = 0
   weights (v ∷ vs) = weight (shape_of p.names v.type_) + weights vs
 
-  -- the size of what a function takes
-  abbrev pub operand_weights : Option CoreFunc → ℕ → ℕ
-  operand_weights None n = 0
-  operand_weights (Some f) n = weights (take n f.vars)
+  -- the size of what a function takes and gives
+  abbrev pub frame_weights : Option CoreFunc → ℕ → ℕ
+  frame_weights None n = 0
+  frame_weights (Some f) n = weights (take n f.vars) + weights (result_vars f n)
 
-  -- "Defer statements": the last one that is deferred comes first
+  -- "Defer statements": the last one that is deferred comes first. It pays for parameters and results here
   abbrev pub with_deferred : Invocation → ℕ → Frame → List Frame → State → Option State
   with_deferred i units f below s = Some (moved g (record f { deferred_calls = i ∷ f.deferred_calls } ∷ below) (1 + units) s)
 
   abbrev pub defer_resolved : Resolved → Frame → List Frame → State → Option State
-  defer_resolved (ready func bases row vs) f below s = with_deferred (invoke func bases row vs) (operand_weights (slice_get p.funcs func) (length vs)) f below s
+  defer_resolved (ready func bases row vs) f below s = with_deferred (invoke func bases row vs) (frame_weights (slice_get p.funcs func) (length vs)) f below s
   defer_resolved nil_function f below s = with_deferred nothing_to_invoke 0 f below s
   defer_resolved nil_interface f below s = panic_step p.hidden g nil_used 0 f below s
   defer_resolved unresolved f below s = None

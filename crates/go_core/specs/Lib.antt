@@ -35,9 +35,6 @@ pub mod RowsPanics
 pub mod RowsTalk
 pub mod TypeOf
 pub mod Terminating
-pub mod Mentions
-pub mod InitOrder
-pub mod Marks
 pub mod SoundNode
 pub mod Sound
 pub mod SoundProgram

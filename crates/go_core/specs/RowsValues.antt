@@ -7,7 +7,7 @@ use Rattle.go_type.specs.Tree as ty
 use Rattle.go_type.specs.Tree.{Ty, Tys, no_tys, more_tys, no_specs, more_specs, no_fields, more_fields}
 use Rattle.go_core.specs.CoreTree as core
 use Rattle.go_core.specs.CoreTree.{CoreProgram, CoreFunc, Expr, Stmt, Stmts, no_stmts, no_exprs, expr, Var}
-use Rattle.go_core.specs.MeaningWords.{int, num, n_, str, yes_, no_, exprs, var, let_var, define, call_, var_of, func_of, returns_, say, program, outcome, units_of, prints, panics_with, plus, bin, same, below, cell_of}
+use Rattle.go_core.specs.MeaningWords.{int, num, n_, str, yes_, no_, exprs, var, let_var, define, call_, var_of, func_of, returns_, defer_, say, program, outcome, units_of, prints, panics_with, plus, bin, same, below, cell_of}
 
 abbrev pub uint8 : Ty
 uint8 = ty.int integer.Uint8
@@ -103,6 +103,10 @@ abbrev pub called : CoreProgram
 called = program (core.perform (call_ 2 (more_tys int no_tys) (n_ 7 ∷ [])) 1 ∷ [])
     (func_of (int ∷ []) (int ∷ []) (var_of 10 int ∷ var_of 11 int ∷ []) [] (returns_ (var int 10 ∷ []) ∷ []) ∷ [])
 
+-- `defer f()`, where `f` gives a struct
+abbrev pub deferred : CoreProgram
+deferred = program (defer_ 2 [] ∷ []) (func_of [] (point ∷ []) (var_of 10 point ∷ []) [] (returns_ [] ∷ []) ∷ [])
+
 pub record RowsValues : Type 0 where
   -- the start, the call of `main`, the text (2 more), the line (3 more), the end of `main`, the end
   pub units_of_hello : units_of hello ≡ Some 11
@@ -113,6 +117,8 @@ pub record RowsValues : Type 0 where
   -- the start, the call, the constant (1 more), the call (2 more), the place, its value (1 more), the return
   -- (1 more), the end of the frame, both ends
   pub units_of_a_call : units_of called ≡ Some 15
+  -- the start, the call, the statement (3 more), the call in its turn, its return, the end of its frame, both ends
+  pub units_of_a_deferred_call : units_of deferred ≡ Some 11
   pub sums_wrap : outcome sums [] ≡ prints (codes "-2147483648 1 255\n")
   pub quotients_are_truncated : outcome quotients [] ≡ prints (codes "-3 -1 -9223372036854775808 0\n")
   pub bits_of_two_complements : outcome bits [] ≡ prints (codes "8 14 -13 4 -1 254 -5\n")

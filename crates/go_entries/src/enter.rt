@@ -75,15 +75,15 @@ fn captured_at(c: &Context, func: &Func, bases: &[u64]) -> Result<Vec<Place>, No
     Ok(at)
 }
 
-// The variables that take so many operands.
-fn params_of(func: &Func, count: usize) -> &[Var]
+/// The variables that take so many operands.
+pub fn params_of(func: &Func, count: usize) -> &[Var]
     ensures value { (ts : List Ty) → vars_of ts result.now ≡ take count (func_view ts func.now).vars }
 {
     some_of(func.vars.items.as_slice(), 0, count)
 }
 
-// The variables of its results, after so many parameters.
-fn results_after(func: &Func, count: usize) -> &[Var]
+/// The variables of its results, after so many parameters.
+pub fn results_after(func: &Func, count: usize) -> &[Var]
     ensures value { (ts : List Ty) → vars_of ts result.now ≡ calls.result_vars (func_view ts func.now) count }
 {
     let wanted = func.sig.results.as_slice().len();

@@ -22,6 +22,6 @@ returns c = record {
       let s0 = with_memory (memory_of ts m) s in
       let i = defined.invoke r.func r.bases.now r.row (values_of ts r.operands.now) in
       ap (λ (n : ℕ). calls.with_deferred q g i n f below s0)
-      (ap (calls.operand_weights q g (slice_get q.funcs r.func)) (length-map r.operands.now (λ (x : Bor (List Scalar)). value_of ts x.now)) ∙ sym (c.in_ok-units.ensures.value g))
+      (ap (calls.frame_weights q g (slice_get q.funcs r.func)) (length-map r.operands.now (λ (x : Bor (List Scalar)). value_of ts x.now)) ∙ sym (c.in_ok-units.ensures.value g))
       ∙ ap (λ (x : defined.Frame). Some (moved g (x ∷ below) (1 + c.in_ok-units.units) s0)) (sym (c.in_ok-defer.ensures.value ts));
 }

@@ -2,7 +2,7 @@ use Rattle.std.proofs.Common.{refl}
 use Rattle.std.specs.Prelude.{◌≡◌, [], ◌∷◌, ◌++◌, codes, Some}
 use Rattle.std.specs.Fmt.{digits}
 use Rattle.go_core.specs.MeaningWords.{outcome, units_of, prints, panics_with}
-use Rattle.go_core.specs.RowsValues.{sums, quotients, bits, shifts, divisor_zero, remainder_zero, shift_negative, comparisons, only_where_needed, texts, byte_past_the_end, text_bounds, numbers_converted, texts_converted, no_line, hello, assigned, struct_read, called}
+use Rattle.go_core.specs.RowsValues.{sums, quotients, bits, shifts, divisor_zero, remainder_zero, shift_negative, comparisons, only_where_needed, texts, byte_past_the_end, text_bounds, numbers_converted, texts_converted, no_line, hello, assigned, struct_read, called, deferred}
 use Rattle.go_core.proofs.meaning.rows_values.Goals as goal
 
 units_of_hello_holds : units_of hello ≡ Some 11
@@ -20,6 +20,10 @@ units_of_a_struct_holds = refl
 units_of_a_call_holds : units_of called ≡ Some 15
 unfolding digits
 units_of_a_call_holds = refl
+
+units_of_a_deferred_call_holds : units_of deferred ≡ Some 11
+unfolding digits
+units_of_a_deferred_call_holds = refl
 
 sums_wrap_holds : outcome sums [] ≡ prints (codes "-2147483648 1 255\n")
 unfolding digits
@@ -88,6 +92,7 @@ returns c = record {
     units_of_an_assignment = units_of_an_assignment_holds;
     units_of_a_struct = units_of_a_struct_holds;
     units_of_a_call = units_of_a_call_holds;
+    units_of_a_deferred_call = units_of_a_deferred_call_holds;
     sums_wrap = sums_wrap_holds;
     quotients_are_truncated = quotients_are_truncated_holds;
     bits_of_two_complements = bits_of_two_complements_holds;

@@ -22,6 +22,8 @@ pub data Mention : Type 0 where
   takes_function : (func : ℕ) → Mention
   takes_method : (name : MethodName) → Mention
   takes_dynamic : (name package_ : List ℕ) (type_ : Option Ty) → Mention
+  -- the pointer to a variable, or to a part of it
+  takes_address : (var : ℕ) → Mention
   -- it may wait, yield, defer or recover
   blocks : Mention
 
@@ -29,6 +31,13 @@ pub data Mention : Type 0 where
 pub data Manner : Type 0 where
   calling : Manner
   starting : Manner
+
+-- the variable that a place is, or is a part of
+abbrev pub of_variable : CorePlace → List Mention
+of_variable (core.local_ v) = takes_address v ∷ []
+of_variable (core.field t n place) = of_variable place
+of_variable (core.elem t place i) = of_variable place
+of_variable _ = []
 
 module _ (ns : List NamedTy) where
   abbrev pub type_of : Expr → Option Ty
@@ -39,7 +48,7 @@ module _ (ns : List NamedTy) where
     in_expr (core.constant t c) = []
     in_expr (core.zero_value t) = []
     in_expr (core.read t place) = in_place place
-    in_expr (core.address t place) = in_place place
+    in_expr (core.address t place) = of_variable place ++ in_place place
     in_expr (core.unary op t e) = in_expr e
     in_expr (core.binary op t a b) = in_expr a ++ in_expr b
     in_expr (core.concat t a b) = in_expr a ++ in_expr b

@@ -1,11 +1,13 @@
--- own: the functions that may wait, as the least set that these rules close.
-use Rattle.std.specs.Prelude.{◌≡◌, ℕ, List, Option, Some, None, Contains, slice_get}
-use Rattle.go_type.specs.Tree.{Ty, func}
+-- own: the functions that may wait, as the least set that these rules close. A conversion may change the tags of a
+-- function type and of an interface type, so what one call may reach is told by signatures without tags.
+use Rattle.std.specs.Prelude.{◌≡◌, ℕ, List, Bool, Option, Some, None, Contains, slice_get}
+use Rattle.go_type.specs.Tree.{Ty, Tys, func}
 use Rattle.go_type.specs.Underlying.{underlying}
 use Rattle.go_core.specs.CoreTree.{CoreFunc, MethodName, MethodRow, PackageVar, CoreProgram}
 use Rattle.go_core.specs.StepInterfaces.{row_of}
+use Rattle.go_core.specs.Untagged.{untagged_types}
 use Rattle.go_core.specs.TypeOf.{Signature, method_in}
-use Rattle.go_core.specs.Mentions.{Mention, blocks, calls_function, calls_method, calls_value, calls_dynamic, takes_function, takes_method, takes_dynamic, in_stmts, in_bound}
+use Rattle.go_mentions.specs.Mentions.{Mention, blocks, calls_function, calls_method, calls_value, calls_dynamic, takes_function, takes_method, takes_dynamic, in_stmts, in_bound}
 
 -- the body of a function mentions it
 pub record BodyMentions (p : CoreProgram) (k : ℕ) (m : Mention) : Type 0 where
@@ -19,8 +21,12 @@ pub data IsMentioned (p : CoreProgram) (m : Mention) : Type 0 where
   in_an_initialiser : (n : ℕ) (x : PackageVar)
       → slice_get p.globals n ≡ Some x → Contains (in_bound p.names x.initialiser) m → IsMentioned p m
 
+-- the signature with no tags
+abbrev pub untagged_signature : Tys → Tys → Bool → Signature
+untagged_signature params results variadic = record { params = untagged_types params; results = untagged_types results; variadic = variadic }
+
 abbrev pub signature_of : CoreFunc → Signature
-signature_of f = record { params = f.params; results = f.results; variadic = f.variadic }
+signature_of f = untagged_signature f.params f.results f.variadic
 
 -- a method's row leads to the function
 pub record IsMethodFunc (p : CoreProgram) (row : MethodRow) (k : ℕ) (signature : Signature) : Type 0 where
@@ -41,12 +47,16 @@ abbrev pub under_option : CoreProgram → Option Ty → Option Ty
 under_option p None = None
 under_option p (Some t) = Some (underlying p.names t)
 
+abbrev pub without_tags : Option Signature → Option Signature
+without_tags None = None
+without_tags (Some s) = Some (untagged_signature s.params s.results s.variadic)
+
 abbrev pub method_of : List ℕ → List ℕ → Option Ty → Option Signature
 method_of name package_ None = None
-method_of name package_ (Some t) = method_in name package_ t
+method_of name package_ (Some t) = without_tags (method_in name package_ t)
 
 abbrev pub func_signature : Option Ty → Option Signature
-func_signature (Some (func ps rs v)) = Some (record { params = ps; results = rs; variadic = v })
+func_signature (Some (func ps rs v)) = Some (untagged_signature ps rs v)
 func_signature _ = None
 
 -- the function is taken as a value

@@ -4,7 +4,7 @@ use Rattle.std.specs.Prelude.{◌≡◌, ◌≢◌, ◌≤◌, ℕ, List, [], �
 use Rattle.go_core.specs.CoreTree.{CoreFunc, PackageVar, PackageRow, MethodRow, InitStep, initialise, call_init, CoreProgram}
 use Rattle.go_core.specs.Text.{text_less}
 use Rattle.go_core.specs.StepInterfaces.{row_of}
-use Rattle.go_core.specs.Mentions.{Mention, names_global, calls_function, calls_method, starts_function, starts_method, takes_function, takes_method, in_stmts, in_bound}
+use Rattle.go_mentions.specs.Mentions.{Mention, names_global, calls_function, calls_method, starts_function, starts_method, takes_function, takes_method, in_stmts, in_bound}
 
 -- what refers to what: package variables and functions, by their places
 pub data Reference : Type 0 where

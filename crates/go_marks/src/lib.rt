@@ -1,0 +1,5 @@
+//! Which functions may wait.
+//!
+//! `specs/Marks.antt` has the rules: the least set that they close (own).
+#![tactic(auto)]
+

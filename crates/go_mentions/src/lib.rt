@@ -1,0 +1,7 @@
+//! What the code of a body or of an initialiser names, calls and does, and which variables of a
+//! function are boxed.
+//!
+//! The Go Programming Language Specification (as of Go 1.17), "Package initialization", "Calls",
+//! "Method values". Definitions alone: `specs/Mentions.antt` and `specs/Boxed.antt`.
+#![tactic(auto)]
+
