@@ -1,7 +1,7 @@
 //! Literals of numbers, runes and strings. Go, "Integer literals", "Rune literals".
 
-use go_check_state::{Checker, Operand};
 use gj_base::{NoMemory, Place, Text};
+use go_check_state::{Checker, Operand};
 use go_const::Const;
 use go_type::predeclared::untyped_id;
 use go_type::types::Basis;

@@ -1,11 +1,11 @@
 //! Calls of built-in functions. Go, "Built-in functions".
 
-use crate::calls::spread;
-use go_check_operand::index::index;
+use crate::calls::{spread, within};
+use gj_base::{NoMemory, Place};
 use go_check_operand::assignment::{assignment, default_value, single_value};
+use go_check_operand::index::index;
 use go_check_state::node::{Node, NodeId, Span, StmtNode};
 use go_check_state::{Builtin, Checker, FaultCode, Mode, NONE, Operand, Shape};
-use gj_base::{NoMemory, Place};
 use go_const::Const;
 use go_type::predeclared::{STR, int_id};
 use go_type::types::{Dir, IntName, TypeId};
@@ -59,28 +59,40 @@ pub fn builtin(
     dots: bool,
     before: bool,
 ) -> Result<Operand, NoMemory> {
-    let args = match b {
-        Builtin::Make | Builtin::New => args,
+    let (args, several) = match b {
+        Builtin::Make | Builtin::New => (args, None),
         _ => spread(c, args)?,
     };
     let (least, most) = counts(b);
     if dots && b != Builtin::Append || args.len() < least || args.len() > most {
         return c.fail(FaultCode::WrongArgumentCount, place);
     }
+    let x = row(c, place, b, &args, dots, before)?;
+    within(c, several, x)
+}
+
+fn row(
+    c: &mut Checker,
+    place: Place,
+    b: Builtin,
+    args: &Vec<Operand>,
+    dots: bool,
+    before: bool,
+) -> Result<Operand, NoMemory> {
     let x = args.first().copied();
     let y = args.get(1).copied();
     match (b, x, y) {
         (Builtin::Len, Some(x), _) | (Builtin::Cap, Some(x), _) => {
             length(c, place, b, x, before)
         }
-        (Builtin::Append, Some(x), _) => append(c, place, x, &args, dots),
+        (Builtin::Append, Some(x), _) => append(c, place, x, args, dots),
         (Builtin::Copy, Some(x), Some(y)) => copy(c, place, x, y),
         (Builtin::Delete, Some(x), Some(y)) => delete(c, place, x, y),
         (Builtin::Make, Some(x), _) => make(c, place, x, y, args.get(2).copied()),
         (Builtin::New, Some(x), _) => new(c, place, x),
         (Builtin::Panic, Some(x), _) => panic(c, place, x),
         (Builtin::Close, Some(x), _) => close(c, place, x),
-        (Builtin::Print, _, _) | (Builtin::Println, _, _) => print(c, place, b, &args),
+        (Builtin::Print, _, _) | (Builtin::Println, _, _) => print(c, place, b, args),
         (Builtin::Recover, _, _) => recover(c, place),
         _ => host(c, place, b, x, y),
     }

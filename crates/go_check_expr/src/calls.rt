@@ -1,27 +1,42 @@
 //! Calls of functions. Go, "Calls", "Passing arguments to ... parameters".
 
-use go_check_operand::assignment::{assignment, single_value};
-use go_check_state::node::{Callee, Node, NodeId, PlaceNode, VarRef};
-use go_check_state::{Checker, EMPTY, FaultCode, Mode, NONE, Operand, Shape};
 use gj_base::{NoMemory, Place};
+use go_check_operand::assignment::{assignment, single_value};
+use go_check_state::node::{Callee, Node, NodeId, PlaceNode, Span, VarRef};
+use go_check_state::{Checker, EMPTY, FaultCode, Mode, NONE, Operand, Shape};
 use go_type::types::TypeId;
 
-/// The arguments, where the results of one call may be several: reads of fresh variables that hold them.
-pub fn spread(c: &mut Checker, args: Vec<Operand>) -> Result<Vec<Operand>, NoMemory> {
-    let Some(x) = args.first().copied() else {
-        return Ok(args);
-    };
-    let Shape::Tuple(count) = c.level(x.ty) else {
-        return Ok(args);
-    };
-    if args.len() != 1 {
-        return Ok(args);
-    }
-    results_of(c, x, count)
+/// The fresh variables that hold several results, and the call that gives them.
+#[derive(Clone, Copy, Debug)]
+pub struct Results {
+    pub vars: Span,
+    pub value: NodeId,
 }
 
-/// The several results of a call, each as a value.
-pub fn results_of(c: &mut Checker, x: Operand, count: usize) -> Result<Vec<Operand>, NoMemory> {
+/// The arguments, where the results of one call may be several: reads of fresh variables that hold them.
+pub fn spread(
+    c: &mut Checker,
+    args: Vec<Operand>,
+) -> Result<(Vec<Operand>, Option<Results>), NoMemory> {
+    let Some(x) = args.first().copied() else {
+        return Ok((args, None));
+    };
+    let Shape::Tuple(count) = c.level(x.ty) else {
+        return Ok((args, None));
+    };
+    if args.len() != 1 {
+        return Ok((args, None));
+    }
+    let (args, results) = results_of(c, x, count)?;
+    Ok((args, Some(results)))
+}
+
+/// The several results of a call, each as a value of a fresh variable.
+pub fn results_of(
+    c: &mut Checker,
+    x: Operand,
+    count: usize,
+) -> Result<(Vec<Operand>, Results), NoMemory> {
     let mut vars: Vec<u32> = Vec::new(c.alloc);
     let mut out = Vec::new(c.alloc);
     for number in 0..count {
@@ -33,8 +48,33 @@ pub fn results_of(c: &mut Checker, x: Operand, count: usize) -> Result<Vec<Opera
     }
     let vars = c.nodes.list(vars.as_slice())?;
     let value = x.node;
-    c.nodes.expr(x.place, Node::Spread { vars, value })?;
-    Ok(out)
+    Ok((out, Results { vars, value }))
+}
+
+/// An operand within the fresh variables that its parts read, where there are some.
+pub fn within(c: &mut Checker, results: Option<Results>, x: Operand) -> Result<Operand, NoMemory> {
+    match results {
+        Some(Results { vars, value }) if !x.is_unknown() => {
+            let body = x.node;
+            let values = c.nodes.list(&[value.0])?;
+            let node = c.nodes.expr(x.place, Node::Let { vars, values, body })?;
+            Ok(Operand { node, ..x })
+        }
+        _ => Ok(x),
+    }
+}
+
+// A function value in a fresh variable, so that it is evaluated before what follows.
+fn held_callee(c: &mut Checker, f: Operand) -> Result<(Operand, Option<Results>), NoMemory> {
+    if let Node::Closure { .. } = c.nodes.get(f.node) {
+        return Ok((f, None));
+    }
+    let var = c.fresh(EMPTY, f.place, f.ty)?;
+    let vars = c.nodes.list(&[var.0])?;
+    let value = f.node;
+    let place = c.nodes.place(PlaceNode::Local(var))?;
+    let read = c.value(f.place, f.ty, Node::Read { ty: f.ty, place })?;
+    Ok((read, Some(Results { vars, value })))
 }
 
 // What is called, by the node of the operand; a bound method's receiver is the first operand.
@@ -85,16 +125,29 @@ pub fn call(
     let Shape::Func(params, results, variadic) = c.shape(f.ty) else {
         return c.fail(FaultCode::NotAFunction, f.place);
     };
-    let is_spread = args.len() == 1 && is_several(c, args.first().copied());
-    let args = spread(c, args)?;
+    let (args, several) = spread(c, args)?;
+    let is_spread = several.is_some();
     if !fits_count(params, variadic, args.len(), dots && !is_spread)
         || dots && (is_spread || !variadic)
     {
         return c.fail(FaultCode::WrongArgumentCount, place);
     }
+    let (f, function) = if is_spread {
+        held_callee(c, f)?
+    } else {
+        (f, None)
+    };
     let mut operands: Vec<u32> = Vec::new(c.alloc);
     let callee = callee(c, f, &mut operands)?;
-    let Some(()) = arguments(c, place, f.ty, params, variadic && !dots, &args, &mut operands)?
+    let Some(()) = arguments(
+        c,
+        place,
+        f.ty,
+        params,
+        variadic && !dots,
+        &args,
+        &mut operands,
+    )?
     else {
         return c.unknown(place);
     };
@@ -104,17 +157,9 @@ pub fn call(
         callee,
         operands,
     };
-    result(c, place, f.ty, results, node)
-}
-
-fn is_several(c: &Checker, x: Option<Operand>) -> bool {
-    match x {
-        Some(x) => match c.level(x.ty) {
-            Shape::Tuple(_) => true,
-            _ => false,
-        },
-        None => false,
-    }
+    let x = result(c, place, f.ty, results, node)?;
+    let x = within(c, several, x)?;
+    within(c, function, x)
 }
 
 fn fits_count(params: usize, variadic: bool, args: usize, dots: bool) -> bool {
@@ -160,7 +205,11 @@ fn arguments(
 ) -> Result<Option<()>, NoMemory> {
     let mut known = true;
     let mut rest: Vec<u32> = Vec::new(c.alloc);
-    let slice = if params > 0 { c.param(sig, params - 1) } else { NONE };
+    let slice = if params > 0 {
+        c.param(sig, params - 1)
+    } else {
+        NONE
+    };
     for number in 0..args.len() {
         let Some(x) = args.get(number).copied() else {
             return Ok(None);

@@ -1,8 +1,8 @@
 //! Calls of types. Go, "Conversions".
 
+use gj_base::{NoMemory, Place};
 use go_check_operand::conversion::conversion;
 use go_check_state::{Checker, FaultCode, Operand};
-use gj_base::{NoMemory, Place};
 use go_type::types::TypeId;
 
 /// `T(args)`: F60 where there isn't one argument.

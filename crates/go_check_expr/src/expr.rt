@@ -12,13 +12,13 @@ use crate::types::{
     DIRECT, array_length, array_type, direction, fields, interface_rows, interface_type, map_type,
     members, signature, struct_rows, struct_type, wanted_type,
 };
+use gj_base::{NoMemory, Op, Place};
 use go_check_operand::binary::binary;
 use go_check_operand::unary::unary;
 use go_check_state::names::EMPTY;
 use go_check_state::node::{Node, Span};
 use go_check_state::state::{FuncRow, joined};
 use go_check_state::{Checker, FaultCode, Mode, Operand};
-use gj_base::{NoMemory, Op, Place};
 use go_syntax::tree::{Expr, ExprForm, Name, Prefix};
 use go_type::types::TypeId;
 
@@ -130,7 +130,11 @@ pub fn operand(c: &mut Checker, e: &Expr, around: Around) -> Result<Operand, NoM
             let mut b = begin(c, place, t, false)?;
             literal(c, &mut b, elems)?;
             let x = end(c, &b)?;
-            if points { address_of_literal(c, place, x)? } else { x }
+            if points {
+                address_of_literal(c, place, x)?
+            } else {
+                x
+            }
         }
         ExprForm::Func(sig, _) => {
             let t = signature(c, sig)?;
@@ -197,11 +201,7 @@ fn finished(c: &mut Checker, place: Place, x: Operand) -> Result<Operand, NoMemo
     Ok(Operand { place, ..x })
 }
 
-fn type_operand(
-    c: &mut Checker,
-    place: Place,
-    t: TypeId,
-) -> Result<Operand, NoMemory> {
+fn type_operand(c: &mut Checker, place: Place, t: TypeId) -> Result<Operand, NoMemory> {
     if c.has(t) {
         c.plain(Mode::TypeName, place, t)
     } else {
@@ -243,12 +243,7 @@ fn unary_row(
 }
 
 // Go, "Selectors", "Qualified identifiers".
-fn select_row(
-    c: &mut Checker,
-    place: Place,
-    x: Operand,
-    name: &Name,
-) -> Result<Operand, NoMemory> {
+fn select_row(c: &mut Checker, place: Place, x: Operand, name: &Name) -> Result<Operand, NoMemory> {
     if let Mode::Package(package) = x.mode {
         return member(c, place, package, name.place, &name.text);
     }
@@ -285,6 +280,7 @@ fn function_literal(c: &mut Checker, place: Place, t: TypeId) -> Result<Operand,
         parent: c.current,
         receiver: None,
         is_literal: true,
+        scope: c.head,
         params: Span { start: 0, len: 0 },
         body: None,
     })?;

@@ -1,11 +1,11 @@
 //! Index and slice expressions, assertions and receives. Go, "Index expressions", "Slice expressions",
 //! "Type assertions", "Receive operator".
 
-use go_check_operand::index::index;
+use gj_base::{NoMemory, Place};
 use go_check_operand::assignment::{assignment, default_value, single_value};
+use go_check_operand::index::index;
 use go_check_state::node::{Node, NodeId, PlaceId, PlaceNode};
 use go_check_state::{Checker, EMPTY, FaultCode, Mode, Operand, Shape};
-use gj_base::{NoMemory, Place};
 use go_type::predeclared::{STR, int_id};
 use go_type::types::{Dir, IntName, TypeId};
 
@@ -53,7 +53,10 @@ fn byte_at(c: &mut Checker, place: Place, x: Operand, i: Operand) -> Result<Oper
 }
 
 // The storage of an operand, which a fresh variable holds where no place does.
-fn stored(c: &mut Checker, x: Operand) -> Result<(PlaceId, Option<go_check_state::node::VarRef>), NoMemory> {
+fn stored(
+    c: &mut Checker,
+    x: Operand,
+) -> Result<(PlaceId, Option<go_check_state::node::VarRef>), NoMemory> {
     match x.mode {
         Mode::Variable(at) => Ok((at, None)),
         _ => {
@@ -87,8 +90,8 @@ fn element(
         None => c.operand(Mode::Variable(at), place, of, read),
         Some(var) => {
             let body = c.nodes.expr(place, read)?;
-            let value = x.node;
-            c.value(place, of, Node::Let { var, value, body })
+            let node = c.nodes.let_one(place, var, x.node, body)?;
+            c.typed(place, of, node)
         }
     }
 }
@@ -156,10 +159,7 @@ fn entry(
 }
 
 /// What a slice expression is of: what it gives, and the greatest constant bound and one.
-fn sliced(
-    c: &mut Checker,
-    x: Operand,
-) -> Result<Option<(TypeId, Option<i128>, bool)>, NoMemory> {
+fn sliced(c: &mut Checker, x: Operand) -> Result<Option<(TypeId, Option<i128>, bool)>, NoMemory> {
     if c.is_string(x.ty) {
         let limit = match x.constant() {
             Some(id) => c.text_of(id).map(|text| text.as_bytes().len() as i128 + 1),
@@ -342,7 +342,9 @@ pub fn with_ok(c: &mut Checker, x: Operand) -> Result<Option<NodeId>, NoMemory> 
             operand,
         },
         Node::Receive {
-            channel, operand, ..
+            channel,
+            operand,
+            ..
         } => Node::Receive {
             channel,
             with_ok: true,

@@ -4,10 +4,10 @@
 //! `literal` goes over the tree.
 
 use crate::expr::{Around, NOTHING, operand};
+use gj_base::{NoMemory, Place, Text};
 use go_check_operand::assignment::assignment;
 use go_check_state::node::{ConstId, Node};
 use go_check_state::{BLANK, Checker, FaultCode, NONE, Operand, Shape};
-use gj_base::{NoMemory, Place, Text};
 use go_syntax::tree::{Elem, Expr, ExprForm};
 use go_type::types::TypeId;
 
@@ -44,12 +44,7 @@ pub struct Building {
 }
 
 /// Begins a literal of a type, or of an array of it whose length is counted.
-pub fn begin(
-    c: &mut Checker,
-    place: Place,
-    t: TypeId,
-    counts: bool,
-) -> Result<Building, NoMemory> {
+pub fn begin(c: &mut Checker, place: Place, t: TypeId, counts: bool) -> Result<Building, NoMemory> {
     let (kind, key, of, limit) = match c.shape(t) {
         _ if counts => (Kind::Counted, NONE, t, 2147483647),
         Shape::Struct(count) if count <= 1000 => (Kind::Struct, NONE, NONE, count as u32),
@@ -239,11 +234,7 @@ fn map_key(
 }
 
 // Where an element without a key goes: F69 past the end, or where one was, or at a hidden field.
-fn next_place(
-    c: &mut Checker,
-    b: &Building,
-    place: Place,
-) -> Result<Option<u32>, NoMemory> {
+fn next_place(c: &mut Checker, b: &Building, place: Place) -> Result<Option<u32>, NoMemory> {
     let fits = match b.kind {
         Kind::Struct => b.seen < b.limit && is_visible(c, b.ty, b.seen),
         Kind::List | Kind::Counted => {
@@ -252,7 +243,11 @@ fn next_place(
         _ => return Ok(None),
     };
     if fits {
-        return Ok(Some(if b.kind == Kind::Struct { b.seen } else { b.next }));
+        return Ok(Some(if b.kind == Kind::Struct {
+            b.seen
+        } else {
+            b.next
+        }));
     }
     if b.kind != Kind::Struct || b.seen <= b.limit {
         c.fault(FaultCode::BadLiteral, place)?;

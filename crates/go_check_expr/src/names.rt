@@ -1,12 +1,12 @@
 //! Names where something is wanted. Go, "Declarations and scope", "Qualified identifiers".
 
+use gj_base::{NoMemory, Place, Text};
 use go_check_state::node::{ConstId, FuncRef, Node, PlaceNode, VarRef};
+use go_check_state::scope::UNIVERSE;
 use go_check_state::state::Colour;
 use go_check_state::{BLANK, Checker, Entity, FaultCode, INIT, Mode, NONE, NameId, Operand};
-use gj_base::{NoMemory, Place, Text};
 use go_type::predeclared::untyped_id;
 use go_type::types::Basis;
-use go_check_state::scope::UNIVERSE;
 
 /// What a name is here: F50 where it has no declaration.
 pub fn name(c: &mut Checker, place: Place, text: &Text) -> Result<Operand, NoMemory> {
@@ -46,12 +46,7 @@ fn is_done(c: &Checker, unit: u32) -> bool {
 }
 
 // A name of the package whose declaration isn't typed yet: of a named type the name alone will do.
-fn undone(
-    c: &mut Checker,
-    place: Place,
-    unit: u32,
-    entity: Entity,
-) -> Result<Operand, NoMemory> {
+fn undone(c: &mut Checker, place: Place, unit: u32, entity: Entity) -> Result<Operand, NoMemory> {
     if let Entity::TypeName(t) = entity {
         if c.has(t) {
             return c.plain(Mode::TypeName, place, t);

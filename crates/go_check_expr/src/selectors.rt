@@ -1,11 +1,11 @@
 //! Selectors, indirections and addresses. Go, "Selectors", "Method values", "Address operators".
 
 use crate::names::no_member;
+use gj_base::{NoMemory, Place};
 use go_check_operand::assignment::{default_value, single_value};
 use go_check_state::node::{Node, NodeId, PlaceId, PlaceNode, VarRef};
 use go_check_state::selector::Found;
 use go_check_state::{Checker, EMPTY, FaultCode, Mode, NONE, NameId, Operand, Shape};
-use gj_base::{NoMemory, Place};
 use go_type::steps::Step;
 use go_type::types::TypeId;
 
@@ -57,7 +57,11 @@ fn read(c: &mut Checker, place: Place, w: Walked) -> Result<NodeId, NoMemory> {
 }
 
 // The storage at the end of a walk; a value goes to a fresh variable first.
-fn storage(c: &mut Checker, place: Place, w: Walked) -> Result<(PlaceId, Option<VarRef>), NoMemory> {
+fn storage(
+    c: &mut Checker,
+    place: Place,
+    w: Walked,
+) -> Result<(PlaceId, Option<VarRef>), NoMemory> {
     match w.at {
         At::Storage(at) => Ok((at, w.held)),
         At::Value(_) => {
@@ -115,14 +119,7 @@ fn walk(c: &mut Checker, x: Operand, steps: &[Step]) -> Result<Walked, NoMemory>
 // A node in which the fresh variable of a walk holds the operand.
 fn within(c: &mut Checker, x: Operand, w: Walked, body: NodeId) -> Result<NodeId, NoMemory> {
     match w.held {
-        Some(var) => c.nodes.expr(
-            x.place,
-            Node::Let {
-                var,
-                value: x.node,
-                body,
-            },
-        ),
+        Some(var) => c.nodes.let_one(x.place, var, x.node, body),
         None => Ok(body),
     }
 }
@@ -139,7 +136,11 @@ pub fn selector(
         return method_expression(c, place, x, at, name);
     }
     let x = single_value(c, x)?;
-    let x = if x.constant().is_some() { default_value(c, x)? } else { x };
+    let x = if x.constant().is_some() {
+        default_value(c, x)?
+    } else {
+        x
+    };
     if x.is_unknown() {
         return c.unknown(place);
     }
@@ -170,12 +171,7 @@ fn method_expression(
     }
 }
 
-fn field(
-    c: &mut Checker,
-    place: Place,
-    x: Operand,
-    steps: &[Step],
-) -> Result<Operand, NoMemory> {
+fn field(c: &mut Checker, place: Place, x: Operand, steps: &[Step]) -> Result<Operand, NoMemory> {
     let w = walk(c, x, steps)?;
     if !c.has(w.ty) {
         return c.unknown(place);
@@ -320,11 +316,7 @@ pub fn address_of(c: &mut Checker, place: Place, x: Operand) -> Result<Operand, 
 }
 
 /// `&T{}`: the pointer to a fresh variable that holds the literal.
-pub fn address_of_literal(
-    c: &mut Checker,
-    place: Place,
-    x: Operand,
-) -> Result<Operand, NoMemory> {
+pub fn address_of_literal(c: &mut Checker, place: Place, x: Operand) -> Result<Operand, NoMemory> {
     if x.is_unknown() {
         return c.unknown(place);
     }
@@ -332,13 +324,6 @@ pub fn address_of_literal(
     let at = c.nodes.place(PlaceNode::Local(var))?;
     let ty = c.pointer_to(x.ty)?;
     let body = c.nodes.expr(place, Node::Address { ty, place: at })?;
-    c.value(
-        place,
-        ty,
-        Node::Let {
-            var,
-            value: x.node,
-            body,
-        },
-    )
+    let node = c.nodes.let_one(place, var, x.node, body)?;
+    c.typed(place, ty, node)
 }

@@ -1,10 +1,10 @@
 //! Fields of structs and methods of interfaces. Go, "Struct types", "Interface types".
 
-use go_check_state::{BLANK, Checker, FaultCode, NameId, Shape};
 use gj_base::{NoMemory, Place, Text};
+use go_check_state::{BLANK, Checker, FaultCode, NameId, Shape};
 use go_syntax::tree::Name;
-use go_type::types::{FieldRow, MethodSpec, TypeId};
 use go_type::Sig;
+use go_type::types::{FieldRow, MethodSpec, TypeId};
 
 /// An embedded field: its place, whether it has a `*`, and the type that its name denotes.
 #[derive(Clone, Copy, Debug)]
@@ -94,7 +94,8 @@ pub fn add_embedded(
 
 fn is_embeddable(c: &mut Checker, embedded: Embedded) -> Result<bool, NoMemory> {
     if embedded.star || !c.is_set(embedded.ty) {
-        c.embedded.push((embedded.ty, embedded.place, embedded.star))?;
+        c.embedded
+            .push((embedded.ty, embedded.place, embedded.star))?;
         return Ok(true);
     }
     if let Shape::Pointer(_) = c.shape(embedded.ty) {
@@ -180,7 +181,11 @@ fn merge_one(
     number: usize,
 ) -> Result<bool, NoMemory> {
     let (name, package, sig) = match c.method_spec(t, number) {
-        Some(spec) => (spec.name.clone()?, spec.package.clone()?, copy_sig(c, &spec.sig)?),
+        Some(spec) => (
+            spec.name.clone()?,
+            spec.package.clone()?,
+            copy_sig(c, &spec.sig)?,
+        ),
         None => return Ok(false),
     };
     for spec in specs.iter() {

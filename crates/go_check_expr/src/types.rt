@@ -2,13 +2,11 @@
 
 use crate::expr::{Around, NOTHING, operand};
 use crate::structs::{Embedded, add_embedded, add_field, add_method, merge};
+use gj_base::{NoMemory, Place, Text};
 use go_check_operand::assignment::single_value;
 use go_check_operand::untyped::{Represented, represent};
 use go_check_state::{BLANK, Checker, FaultCode, Mode, NONE, NameId, Operand};
-use gj_base::{NoMemory, Place, Text};
-use go_syntax::tree::{
-    ChanDir, Expr, ExprForm, Field, Member, Name, Params, Results, Sig,
-};
+use go_syntax::tree::{ChanDir, Expr, ExprForm, Field, Member, Name, Params, Results, Sig};
 use go_type::types::{Dir, FieldRow, MethodSpec, TypeId};
 
 /// Inside what needs a named type to stand for something.
@@ -279,11 +277,7 @@ pub fn signature(c: &mut Checker, sig: &Sig) -> Result<TypeId, NoMemory> {
 }
 
 // F82 at a parameter with the name of an earlier one.
-fn distinct(
-    c: &mut Checker,
-    names: &mut Vec<NameId>,
-    list: &Params,
-) -> Result<(), NoMemory> {
+fn distinct(c: &mut Checker, names: &mut Vec<NameId>, list: &Params) -> Result<(), NoMemory> {
     for number in 0..list.items.len() {
         if let Some((at, text)) = param_name(list, number) {
             let id = c.names.intern(text.as_bytes())?;

@@ -2,9 +2,9 @@
 
 use crate::resolve::{enter, initialise};
 use crate::unit::{UnitForm, Units};
+use gj_base::NoMemory;
 use go_check_state::{Checker, FaultCode, Shape};
 use go_check_stmt::{bodies, function_body};
-use gj_base::NoMemory;
 
 /// Initialisers of variables with a type, and the function literals of all initialisers.
 pub fn initialisers(c: &mut Checker, u: &Units<'_>, from: usize) -> Result<(), NoMemory> {
@@ -30,7 +30,10 @@ pub fn functions(c: &mut Checker, u: &Units<'_>, from: usize) -> Result<(), NoMe
         if let Some(row) = u.bodies.get(number).copied() {
             enter(c, row.package, row.file);
             let receiver = match (row.receiver, c.func(row.func)) {
-                (Some(list), Some(func)) => Some((list, func.receiver.unwrap_or(go_check_state::NONE))),
+                (Some(list), Some(func)) => Some((
+                    list,
+                    func.receiver.unwrap_or(go_check_state::NONE),
+                )),
                 _ => None,
             };
             function_body(c, row.func, receiver, row.sig, row.block)?;

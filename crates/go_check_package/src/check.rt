@@ -6,9 +6,9 @@ use crate::cycles::tell_cycles;
 use crate::imports::{ImportRow, import, tell_unused};
 use crate::resolve::{enter, resolve};
 use crate::unit::{UnitForm, Units};
+use gj_base::{NoMemory, Text};
 use go_check_state::state::FaultRow;
 use go_check_state::{Checker, NameId};
-use gj_base::{NoMemory, Text};
 use go_syntax::tree::File;
 use std::alloc::Global;
 
@@ -140,6 +140,7 @@ fn package(
     functions(c, &u, 0)?;
     embedded_pointers(c)?;
     tell_unused(c, &imports)?;
+    c.tell_unused()?;
     finish(c, &u)
 }
 

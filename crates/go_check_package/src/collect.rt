@@ -1,21 +1,17 @@
 //! The declarations of a file, each name in its package's scope. Go, "Declarations and scope".
 
 use crate::unit::{BodyRow, Unit, UnitForm, UnitName, Units};
+use gj_base::{NoMemory, Place};
 use go_check_state::node::Span;
 use go_check_state::state::{Colour, FuncRow, GlobalRow};
-use go_check_state::{BLANK, Checker, Entity, FaultCode, INIT, MAIN, NONE, NameId};
+use go_check_state::{BLANK, Checker, Entity, FaultCode, INIT, MAIN, NO_OBJECT, NONE, NameId};
 use go_check_stmt::local::{counts_match, repeated};
-use gj_base::{NoMemory, Place};
 use go_syntax::tree::{
     Block, Decl, DeclForm, File, Name, Params, Results, Sig, TypeSpec, ValueSpec,
 };
 
 /// Collects the declarations of a file of the present package.
-pub fn collect<'a>(
-    c: &mut Checker,
-    u: &mut Units<'a>,
-    file: &'a File,
-) -> Result<(), NoMemory> {
+pub fn collect<'a>(c: &mut Checker, u: &mut Units<'a>, file: &'a File) -> Result<(), NoMemory> {
     for d in &file.decls {
         decl(c, u, d)?;
     }
@@ -127,9 +123,7 @@ fn const_spec<'a>(
             let unit = next_unit(c)?;
             add_name(c, u, name, unit, Entity::Unknown, 0)?;
             let form = match from {
-                Some(from) => {
-                    UnitForm::Const(from.ty.as_ref(), from.values.get(number), iota)
-                }
+                Some(from) => { UnitForm::Const(from.ty.as_ref(), from.values.get(number), iota) }
                 None => UnitForm::Const(None, None, iota),
             };
             add_unit(c, u, form, 1, 0)?;
@@ -138,11 +132,7 @@ fn const_spec<'a>(
     Ok(())
 }
 
-fn type_spec<'a>(
-    c: &mut Checker,
-    u: &mut Units<'a>,
-    spec: &'a TypeSpec,
-) -> Result<(), NoMemory> {
+fn type_spec<'a>(c: &mut Checker, u: &mut Units<'a>, spec: &'a TypeSpec) -> Result<(), NoMemory> {
     let unit = next_unit(c)?;
     let entity = if spec.alias {
         Entity::Unknown
@@ -164,12 +154,7 @@ fn type_spec<'a>(
     add_unit(c, u, UnitForm::Type(spec), 1, 0)
 }
 
-fn add_global(
-    c: &mut Checker,
-    name: NameId,
-    place: Place,
-    first: u32,
-) -> Result<u32, NoMemory> {
+fn add_global(c: &mut Checker, name: NameId, place: Place, first: u32) -> Result<u32, NoMemory> {
     let id = c.globals.len();
     if id >= u32::MAX as usize {
         return Err(NoMemory);
@@ -186,11 +171,7 @@ fn add_global(
     Ok(id as u32)
 }
 
-fn var_spec<'a>(
-    c: &mut Checker,
-    u: &mut Units<'a>,
-    spec: &'a ValueSpec,
-) -> Result<(), NoMemory> {
+fn var_spec<'a>(c: &mut Checker, u: &mut Units<'a>, spec: &'a ValueSpec) -> Result<(), NoMemory> {
     let several = spec.values.len() == 1 && spec.names.len() > 1;
     if !spec.values.is_empty() && !several {
         counts_match(c, spec, spec.values.len())?;
@@ -245,6 +226,7 @@ fn add_body<'a>(
         parent: None,
         receiver: None,
         is_literal: false,
+        scope: NO_OBJECT,
         params: Span { start: 0, len: 0 },
         body: None,
     })?;

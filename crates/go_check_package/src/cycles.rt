@@ -1,9 +1,9 @@
 //! Declarations that need themselves.
 
 use crate::unit::Units;
+use gj_base::NoMemory;
 use go_check_state::state::Colour;
 use go_check_state::{Checker, FaultCode};
-use gj_base::NoMemory;
 
 // Whether a declaration needs itself, by what attempts found.
 fn needs_itself(c: &Checker, u: &Units<'_>, unit: u32) -> Result<bool, NoMemory> {

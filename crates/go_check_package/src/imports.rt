@@ -1,8 +1,8 @@
 //! Imports of files. Go, "Import declarations".
 
-use go_check_state::state::joined;
-use go_check_state::{BLANK, Checker, Entity, FaultCode, INIT, NameId, Object};
 use gj_base::{NoMemory, Place};
+use go_check_state::state::joined;
+use go_check_state::{BLANK, Checker, Entity, FaultCode, INIT, NO_OBJECT, NameId, Object};
 use go_syntax::tree::Import;
 
 /// An import, with the object that stands for its package in the file.
@@ -59,6 +59,7 @@ pub fn import(
         place,
         entity: Entity::Package(package),
         unit: None,
+        outer: NO_OBJECT,
         used: taken,
         must_use: false,
     })?;

@@ -1,9 +1,9 @@
 //! Method declarations. Go, "Method declarations".
 
+use gj_base::{NoMemory, Place};
 use go_check_expr::signature;
 use go_check_state::state::MethodEntry;
 use go_check_state::{BLANK, Checker, Entity, FaultCode, NameId, Shape};
-use gj_base::{NoMemory, Place};
 use go_syntax::tree::{Expr, ExprForm, Name, Params, Prefix, Sig};
 use go_type::types::{NamedId, TypeId};
 
@@ -18,10 +18,7 @@ fn base(e: &Expr, star: bool) -> Option<(&Expr, bool)> {
 }
 
 /// The receiver's type, the named type, and whether there is a `*`. F95 where there is none.
-fn receiver(
-    c: &mut Checker,
-    list: &Params,
-) -> Result<Option<(TypeId, bool, Place)>, NoMemory> {
+fn receiver(c: &mut Checker, list: &Params) -> Result<Option<(TypeId, bool, Place)>, NoMemory> {
     let Some(p) = list.items.first() else {
         c.fault(FaultCode::BadReceiver, list.place)?;
         return Ok(None);

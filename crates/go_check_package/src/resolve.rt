@@ -5,15 +5,15 @@
 
 use crate::methods::method;
 use crate::unit::{Unit, UnitForm, UnitName, Units};
+use gj_base::NoMemory;
+use go_check_expr::calls::results_of;
 use go_check_expr::expr::expr;
 use go_check_expr::{signature, type_expr};
-use go_check_expr::calls::results_of;
 use go_check_operand::assignment::{assignment, default_value};
 use go_check_state::state::Colour;
 use go_check_state::{Checker, Entity, FaultCode, NONE, Operand, Shape};
 use go_check_stmt::assign::values_for;
 use go_check_stmt::local::const_entity;
-use gj_base::NoMemory;
 use go_syntax::tree::{Expr, Sig, TypeSpec};
 use go_type::types::TypeId;
 
@@ -134,7 +134,11 @@ fn settle(c: &mut Checker, name: UnitName, entity: Entity) {
 fn try_type(c: &mut Checker, name: UnitName, spec: &TypeSpec) -> Result<(), NoMemory> {
     let t = type_expr(c, &spec.ty, !spec.alias)?;
     if spec.alias {
-        let entity = if c.has(t) { Entity::TypeName(t) } else { Entity::Unknown };
+        let entity = if c.has(t) {
+            Entity::TypeName(t)
+        } else {
+            Entity::Unknown
+        };
         settle(c, name, entity);
         return Ok(());
     }
@@ -182,12 +186,7 @@ fn set_global(c: &mut Checker, name: UnitName, t: TypeId) {
 }
 
 // A variable with a type: its value is looked at once all is typed.
-fn try_typed_var(
-    c: &mut Checker,
-    u: &Units<'_>,
-    row: Unit<'_>,
-    t: &Expr,
-) -> Result<(), NoMemory> {
+fn try_typed_var(c: &mut Checker, u: &Units<'_>, row: Unit<'_>, t: &Expr) -> Result<(), NoMemory> {
     let t = type_expr(c, t, true)?;
     for number in row.start..row.start.saturating_add(row.len) {
         if let Some(name) = u.names.get(number).copied() {
@@ -264,6 +263,6 @@ pub fn initialise(
             }
         }
     }
-    let _ = (Shape::Unknown, results_of(c, x, 0)?.len());
+    let _ = (Shape::Unknown, results_of(c, x, 0)?.0.len());
     Ok(())
 }

@@ -1,7 +1,7 @@
 //! The declarations of packages.
 
-use go_check_state::NameId;
 use gj_base::Place;
+use go_check_state::NameId;
 use go_syntax::tree::{Block, Expr, Name, Params, Sig, TypeSpec};
 
 /// What a declaration is.

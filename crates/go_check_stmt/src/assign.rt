@@ -2,13 +2,13 @@
 
 use crate::body::whole;
 use crate::frame::Frame;
+use gj_base::{NoMemory, Op, Place};
 use go_check_expr::calls::results_of;
 use go_check_expr::index_row::with_ok;
 use go_check_operand::assignment::{assignment, default_value};
 use go_check_operand::binary::binary;
 use go_check_state::node::{Node, NodeId, PlaceNode, StmtId, StmtNode, Target, VarRef};
 use go_check_state::{BLANK, Checker, EMPTY, Entity, FaultCode, Mode, NONE, Operand, Shape};
-use gj_base::{NoMemory, Op, Place};
 use go_const::Const;
 use go_syntax::tree::{Expr, ExprForm};
 use go_type::predeclared::untyped_id;
@@ -54,7 +54,7 @@ pub fn values_for(
             if results != count {
                 return Ok(None);
             }
-            return Ok(Some(results_of(c, x, results)?));
+            return Ok(Some(results_of(c, x, results)?.0));
         }
         if count == 2 {
             return pair(c, x);
@@ -80,11 +80,7 @@ fn has_tuple(c: &Checker, values: &Vec<Operand>) -> bool {
         })
 }
 
-fn unknowns(
-    c: &mut Checker,
-    place: Place,
-    count: usize,
-) -> Result<Option<Vec<Operand>>, NoMemory> {
+fn unknowns(c: &mut Checker, place: Place, count: usize) -> Result<Option<Vec<Operand>>, NoMemory> {
     let mut out = Vec::new(c.alloc);
     for _ in 0..count {
         out.push(c.unknown(place)?)?;
@@ -210,11 +206,7 @@ pub fn assigned(
 }
 
 /// The statement that stores the values.
-pub fn store(
-    c: &mut Checker,
-    targets: &Vec<u32>,
-    values: &Vec<u32>,
-) -> Result<StmtId, NoMemory> {
+pub fn store(c: &mut Checker, targets: &Vec<u32>, values: &Vec<u32>) -> Result<StmtId, NoMemory> {
     let targets = c.nodes.list(targets.as_slice())?;
     let values = c.nodes.list(values.as_slice())?;
     c.nodes.stmt(StmtNode::Store { targets, values })
@@ -241,9 +233,10 @@ pub fn assign(
     };
     let mut nodes: Vec<u32> = Vec::new(c.alloc);
     for number in 0..values.len() {
-        if let (Some(x), Some((target, t, blank))) =
-            (values.get(number).copied(), types.get(number).copied())
-        {
+        if let (Some(x), Some((target, t, blank))) = (
+            values.get(number).copied(),
+            types.get(number).copied(),
+        ) {
             if blank || c.has(t) {
                 nodes.push(assigned(c, x, target, t)?.0)?;
             }
@@ -253,7 +246,11 @@ pub fn assign(
 }
 
 // F84 where a statement that takes one expression has several.
-fn only<'a>(c: &mut Checker, place: Place, list: &'a Vec<Expr>) -> Result<Option<&'a Expr>, NoMemory> {
+fn only<'a>(
+    c: &mut Checker,
+    place: Place,
+    list: &'a Vec<Expr>,
+) -> Result<Option<&'a Expr>, NoMemory> {
     if list.len() != 1 {
         c.fault(FaultCode::CountMismatch, place)?;
     }
@@ -406,10 +403,12 @@ fn define_one(
     let var = new_variable(c, l.name, l.place, x.ty)?;
     parts.push(c.nodes.stmt(StmtNode::Declare(var))?.0)?;
     let at = c.nodes.place(PlaceNode::Local(var))?;
-    targets.push(c.nodes.target(Target::Place {
-        ty: x.ty,
-        place: at,
-    })?)?;
+    targets.push(
+        c.nodes.target(Target::Place {
+            ty: x.ty,
+            place: at,
+        })?,
+    )?;
     nodes.push(x.node.0)?;
     Ok(())
 }

@@ -4,12 +4,12 @@ use crate::frame::Frame;
 use crate::labels::labels_in;
 use crate::stmt::stmt_list;
 use crate::terminating::ends;
+use gj_base::{NoMemory, Place};
 use go_check_expr::expr::expr;
 use go_check_expr::types::{has_names, param_name};
 use go_check_state::node::{NodeId, VarRef};
 use go_check_state::state::joined;
 use go_check_state::{BLANK, Checker, EMPTY, Entity, FaultCode, NONE, NameId, Operand, Shape};
-use gj_base::{NoMemory, Place};
 use go_syntax::tree::{Block, Elem, Expr, ExprForm, Params, Results, Sig};
 use go_type::types::TypeId;
 
@@ -134,7 +134,7 @@ pub fn function_body(
     labels_in(c, &mut f, &block.stmts)?;
     let body = stmt_list(c, &mut f, &block.stmts)?;
     f.tell_labels(c)?;
-    c.close()?;
+    c.close();
     if !returns_nothing(&sig.results) && !ends(c, &block.stmts) {
         c.fault(FaultCode::MissingReturn, block.end)?;
     }

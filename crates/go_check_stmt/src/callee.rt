@@ -1,8 +1,8 @@
 //! What a call calls, by its tree alone: for the places that take some calls and not others.
 
+use gj_base::{NoMemory, Text};
 use go_check_state::scope::UNIVERSE;
 use go_check_state::{Builtin, Checker, Entity};
-use gj_base::{NoMemory, Text};
 use go_syntax::tree::{Expr, ExprForm, Prefix};
 
 /// What is called.

@@ -4,11 +4,11 @@ use crate::assign::{assigned, left_side, new_variable, nothing, values_for};
 use crate::body::{bodies, whole};
 use crate::frame::Frame;
 use crate::stmt::clause_body;
+use gj_base::{NoMemory, Place};
 use go_check_expr::expr::expr;
 use go_check_operand::assignment::{assignment, default_value, single_value};
 use go_check_state::node::{StmtId, StmtNode};
 use go_check_state::{BLANK, Checker, FaultCode, Operand, Shape};
-use gj_base::{NoMemory, Place};
 use go_syntax::tree::{Comm, Expr, ExprForm, Prefix, Stmt, StmtForm};
 use go_type::types::Dir;
 
@@ -74,7 +74,7 @@ pub fn select(
             None => None,
         };
         let (body, _) = clause_body(c, f, &comm.body, false)?;
-        c.close()?;
+        c.close();
         match first {
             Some(first) => {
                 cases.push(first.0)?;

@@ -1,12 +1,12 @@
 //! Constant declarations. Go, "Constant declarations", "Iota".
 
+use gj_base::NoMemory;
 use go_check_expr::expr::expr;
 use go_check_expr::type_expr;
 use go_check_operand::assignment::single_value;
 use go_check_operand::untyped::convert_untyped;
 use go_check_state::node::ConstId;
 use go_check_state::{Checker, FaultCode, NONE, Operand, Shape};
-use gj_base::NoMemory;
 use go_const::Const;
 use go_syntax::tree::Expr;
 use go_type::types::TypeId;

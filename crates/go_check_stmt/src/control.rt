@@ -5,11 +5,11 @@ use crate::body::whole;
 use crate::callee::{Called, called};
 use crate::frame::Frame;
 use crate::stmt::{block, optional_stmt, stmt};
+use gj_base::{NoMemory, Place};
 use go_check_expr::calls::results_of;
 use go_check_operand::assignment::{assignment, default_value, single_value};
 use go_check_state::node::{Node, NodeId, PlaceNode, StmtId, StmtNode};
 use go_check_state::{Builtin, Checker, FaultCode, NameId, Operand, Shape};
-use gj_base::{NoMemory, Place};
 use go_syntax::tree::{Block, Expr, ExprForm, Name, Stmt, StmtForm};
 
 // A condition: F86 where it isn't boolean.
@@ -45,7 +45,7 @@ pub fn if_stmt(
         Some(s) => Some(stmt(c, f, s)?),
         None => None,
     };
-    c.close()?;
+    c.close();
     let second = c.nodes.stmt(StmtNode::If {
         condition,
         when_true,
@@ -80,7 +80,7 @@ pub fn for_stmt(
     let label = f.enter(c, true)?;
     let body = block(c, f, body)?;
     f.leave();
-    c.close()?;
+    c.close();
     let second = c.nodes.stmt(StmtNode::Loop {
         label,
         condition,
@@ -174,14 +174,18 @@ fn returned(
                 if results != count {
                     return Ok(None);
                 }
-                return Ok(Some(results_of(c, x, results)?));
+                return Ok(Some(results_of(c, x, results)?.0));
             }
             if x.is_unknown() {
                 return values_for(c, values, count);
             }
         }
     }
-    if values.len() == count { Ok(Some(values)) } else { Ok(None) }
+    if values.len() == count {
+        Ok(Some(values))
+    } else {
+        Ok(None)
+    }
 }
 
 fn returned_names(c: &mut Checker, f: &Frame) -> Result<StmtId, NoMemory> {
@@ -216,12 +220,7 @@ fn may_start(called: Called) -> bool {
 }
 
 /// `go f(x)` or `defer f(x)`: F96 at all but a call. Go, "Go statements", "Defer statements".
-pub fn start(
-    c: &mut Checker,
-    place: Place,
-    e: &Expr,
-    defers: bool,
-) -> Result<StmtId, NoMemory> {
+pub fn start(c: &mut Checker, place: Place, e: &Expr, defers: bool) -> Result<StmtId, NoMemory> {
     let is_call = match &*e.form {
         ExprForm::Call(callee, _, _) => may_start(called(c, callee)?),
         _ => false,
@@ -233,10 +232,14 @@ pub fn start(
     }
     match c.nodes.get(x.node) {
         Node::Call {
-            callee, operands, ..
+            callee,
+            operands,
+            ..
         } if defers => c.nodes.stmt(StmtNode::DeferCall { callee, operands }),
         Node::Call {
-            callee, operands, ..
+            callee,
+            operands,
+            ..
         } => c.nodes.stmt(StmtNode::GoCall { callee, operands }),
         _ => nothing(c),
     }

@@ -1,8 +1,8 @@
 //! What is known of the function whose body is checked.
 
+use gj_base::{NoMemory, Place};
 use go_check_state::node::VarRef;
 use go_check_state::{Checker, FaultCode, NONE, NameId};
-use gj_base::{NoMemory, Place};
 use go_type::types::TypeId;
 use std::alloc::Global;
 

@@ -1,8 +1,8 @@
 //! The labels of a function's body, function literals aside. Go, "Labeled statements".
 
 use crate::frame::{Frame, LabelRow};
-use go_check_state::{BLANK, Checker, FaultCode};
 use gj_base::NoMemory;
+use go_check_state::{BLANK, Checker, FaultCode};
 use go_syntax::tree::{Block, Name, Stmt, StmtForm};
 
 /// The labels of statements: F82 at a second one.

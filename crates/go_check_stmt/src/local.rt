@@ -2,11 +2,11 @@
 
 use crate::assign::{new_variable, nothing, right_sides, store};
 use crate::constants::constant_value;
+use gj_base::NoMemory;
 use go_check_expr::type_expr;
 use go_check_operand::assignment::{assignment, default_value};
 use go_check_state::node::{PlaceNode, StmtId, StmtNode, Target};
 use go_check_state::{BLANK, Checker, Entity, FaultCode, NONE, Operand, Shape};
-use gj_base::NoMemory;
 use go_syntax::tree::{Decl, DeclForm, Expr, Name, TypeSpec, ValueSpec};
 use go_type::types::TypeId;
 
@@ -56,11 +56,7 @@ fn consts(c: &mut Checker, specs: &Vec<ValueSpec>) -> Result<StmtId, NoMemory> {
 }
 
 /// F84 where a declaration's names and values differ in number.
-pub fn counts_match(
-    c: &mut Checker,
-    spec: &ValueSpec,
-    values: usize,
-) -> Result<bool, NoMemory> {
+pub fn counts_match(c: &mut Checker, spec: &ValueSpec, values: usize) -> Result<bool, NoMemory> {
     if spec.names.len() == values {
         return Ok(true);
     }
@@ -138,7 +134,11 @@ fn type_spec(c: &mut Checker, spec: &TypeSpec) -> Result<(), NoMemory> {
 }
 
 fn known_type(c: &Checker, t: TypeId) -> Entity {
-    if c.has(t) { Entity::TypeName(t) } else { Entity::Unknown }
+    if c.has(t) {
+        Entity::TypeName(t)
+    } else {
+        Entity::Unknown
+    }
 }
 
 fn is_pending(c: &Checker, named: TypeId, before: usize) -> bool {
@@ -158,10 +158,7 @@ fn forget(c: &mut Checker, name: &Name) -> Result<(), NoMemory> {
 }
 
 // The values of a variable declaration: none where it gives none.
-fn spec_values(
-    c: &mut Checker,
-    spec: &ValueSpec,
-) -> Result<Option<Vec<Operand>>, NoMemory> {
+fn spec_values(c: &mut Checker, spec: &ValueSpec) -> Result<Option<Vec<Operand>>, NoMemory> {
     if spec.values.is_empty() {
         return Ok(None);
     }

@@ -4,10 +4,10 @@ use crate::assign::{assigned, left_side, new_variable, nothing};
 use crate::body::whole;
 use crate::frame::Frame;
 use crate::stmt::block;
+use gj_base::{NoMemory, Place};
 use go_check_operand::assignment::default_value;
 use go_check_state::node::{StmtId, StmtNode, VarRef};
 use go_check_state::{BLANK, Checker, EMPTY, FaultCode, NONE, Operand, Shape};
-use gj_base::{NoMemory, Place};
 use go_syntax::tree::{Block, Expr, ExprForm};
 use go_type::predeclared::int_id;
 use go_type::types::{Dir, IntName, TypeId};
@@ -67,7 +67,11 @@ pub fn range(
     c.open()?;
     let x = whole(c, over)?;
     let x = default_value(c, x)?;
-    let what = if x.is_unknown() { None } else { gives(c, place, x)? };
+    let what = if x.is_unknown() {
+        None
+    } else {
+        gives(c, place, x)?
+    };
     if let Some(what) = what {
         if left.len() > what.most {
             c.fault(FaultCode::BadRange, x.place)?;
@@ -90,7 +94,7 @@ pub fn range(
     let inner = block(c, f, body)?;
     stores.push(inner.0)?;
     f.leave();
-    c.close()?;
+    c.close();
     let body = c.nodes.list(stores.as_slice())?;
     let body = c.nodes.stmt(StmtNode::Seq(body))?;
     if x.is_unknown() {

@@ -9,10 +9,10 @@ use crate::frame::{Frame, TargetRow};
 use crate::local::decl;
 use crate::range::range;
 use crate::switch::{switch, type_switch};
+use gj_base::{NoMemory, Place};
 use go_check_state::node::{Node, StmtId, StmtNode};
 use go_check_state::state::joined;
 use go_check_state::{Builtin, Checker, FaultCode, Shape};
-use gj_base::{NoMemory, Place};
 use go_syntax::tree::{Block, Expr, ExprForm, Name, Stmt, StmtForm};
 
 /// Statements, one after another.
@@ -29,16 +29,12 @@ pub fn stmt_list(c: &mut Checker, f: &mut Frame, list: &Vec<Stmt>) -> Result<Stm
 pub fn block(c: &mut Checker, f: &mut Frame, b: &Block) -> Result<StmtId, NoMemory> {
     c.open()?;
     let id = stmt_list(c, f, &b.stmts)?;
-    c.close()?;
+    c.close();
     Ok(id)
 }
 
 /// A statement that may be missing.
-pub fn optional_stmt(
-    c: &mut Checker,
-    f: &mut Frame,
-    s: &Option<Stmt>,
-) -> Result<StmtId, NoMemory> {
+pub fn optional_stmt(c: &mut Checker, f: &mut Frame, s: &Option<Stmt>) -> Result<StmtId, NoMemory> {
     match s {
         Some(s) => stmt(c, f, s),
         None => nothing(c),
@@ -82,7 +78,7 @@ pub fn clause_body(
             }
         }
     }
-    c.close()?;
+    c.close();
     let parts = c.nodes.list(parts.as_slice())?;
     Ok((c.nodes.stmt(StmtNode::Seq(parts))?, falls))
 }

@@ -4,15 +4,13 @@ use crate::assign::nothing;
 use crate::body::whole;
 use crate::frame::Frame;
 use crate::stmt::{clause_body, optional_stmt};
+use gj_base::{NoMemory, Op, Place};
 use go_check_expr::expr::expr;
 use go_check_expr::literal::same_constant;
 use go_check_operand::assignment::{default_value, single_value};
 use go_check_operand::binary::binary;
 use go_check_state::node::{ConstId, Node, NodeId, Span, StmtId, StmtNode};
-use go_check_state::{
-    BLANK, Checker, Entity, FaultCode, Mode, NameId, Operand,
-};
-use gj_base::{NoMemory, Op, Place};
+use go_check_state::{BLANK, Checker, Entity, FaultCode, Mode, NameId, Operand};
 use go_const::Const;
 use go_syntax::tree::{Clause, Expr, Name, Stmt};
 use go_type::predeclared::BOOL;
@@ -41,11 +39,7 @@ fn gather(c: &Checker) -> Gathered {
 }
 
 // F92 at a second default; F76 past the limit of cases.
-fn count_clauses(
-    c: &mut Checker,
-    place: Place,
-    clauses: &Vec<Clause>,
-) -> Result<(), NoMemory> {
+fn count_clauses(c: &mut Checker, place: Place, clauses: &Vec<Clause>) -> Result<(), NoMemory> {
     let mut seen = false;
     let mut cases = 0usize;
     for clause in clauses {
@@ -89,7 +83,7 @@ pub fn switch(
         }
     }
     f.leave();
-    c.close()?;
+    c.close();
     parts.push(switched(c, label, &g)?.0)?;
     let parts = c.nodes.list(parts.as_slice())?;
     c.nodes.stmt(StmtNode::Seq(parts))
@@ -114,7 +108,11 @@ fn tag_value(c: &mut Checker, place: Place, tag: &Option<Expr>) -> Result<Operan
             let x = default_value(c, x)?;
             // A constant tag is compared like any other value.
             Ok(Operand {
-                mode: if x.is_unknown() { Mode::Unknown } else { Mode::Value },
+                mode: if x.is_unknown() {
+                    Mode::Unknown
+                } else {
+                    Mode::Value
+                },
                 ..x
             })
         }
@@ -168,8 +166,7 @@ fn case(
     let Some((id, t)) = case_constant(c, x, test) else {
         return Ok(());
     };
-    if g
-        .consts
+    if g.consts
         .iter()
         .any(|(other, of)| of.0 == t.0 && same_constant(c, *other, id))
     {
@@ -226,7 +223,7 @@ pub fn type_switch(
         }
     }
     f.leave();
-    c.close()?;
+    c.close();
     parts.push(switched(c, label, &g)?.0)?;
     let parts = c.nodes.list(parts.as_slice())?;
     let _ = nothing(c)?;
@@ -244,10 +241,7 @@ fn switched_value(c: &mut Checker, e: &Expr) -> Result<Operand, NoMemory> {
 }
 
 // The symbol: F83 where it is `_`.
-fn symbol_name(
-    c: &mut Checker,
-    name: &Option<Name>,
-) -> Result<Option<(NameId, Place)>, NoMemory> {
+fn symbol_name(c: &mut Checker, name: &Option<Name>) -> Result<Option<(NameId, Place)>, NoMemory> {
     let Some(name) = name else { return Ok(None) };
     let id = c.names.intern(name.text.as_bytes())?;
     if id == BLANK {
@@ -296,7 +290,7 @@ fn type_clause(
         },
         None => false,
     };
-    c.close()?;
+    c.close();
     Ok(used)
 }
 

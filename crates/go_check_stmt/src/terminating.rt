@@ -1,8 +1,8 @@
 //! Terminating statements, on the syntax tree. Go, "Terminating statements".
 
+use gj_base::Text;
 use go_check_state::Checker;
 use go_check_state::state::joined;
-use gj_base::Text;
 use go_syntax::tree::{Clause, Comm, Expr, ExprForm, Name, Stmt, StmtForm};
 
 /// Whether a list of statements ends in a terminating one.
