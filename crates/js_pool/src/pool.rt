@@ -1,0 +1,325 @@
+//! The tables.
+
+use crate::name::{Name, decimal};
+use crate::node::{Block, Bytes, Case, Cases, ExprId, Item, Names, Node, Span, Stmt};
+use std::alloc::Global;
+
+/// All parts of a script under construction.
+///
+/// `lines`, `rest` and `arms` hold what belongs to lists that are still open: statements, expressions
+/// and cases. A list that is closed moves to its table.
+#[derive(Drop)]
+pub struct Pool {
+    pub nodes: Vec<Node>,
+    pub lists: Vec<ExprId>,
+    pub bytes: Vec<u8>,
+    pub stmts: Vec<Stmt>,
+    pub cases: Vec<Case>,
+    pub names: Vec<Name>,
+    pub items: Vec<Item>,
+    pub lines: Vec<Stmt>,
+    pub rest: Vec<ExprId>,
+    pub arms: Vec<Case>,
+    pub alloc: Global,
+    /// Whether memory ran out.
+    pub failed: bool,
+}
+
+/// The beginning of an open list: how much the lists around it hold.
+#[derive(Clone, Copy)]
+pub struct Mark(usize);
+
+// The length of a table as the number of what comes next, where there is room.
+fn next_number(len: usize) -> Option<u32> {
+    if len < 4294967295 {
+        Some(len as u32)
+    } else {
+        None
+    }
+}
+
+impl Pool {
+    /// Tables with nothing in them.
+    pub fn new(alloc: Global) -> Pool {
+        Pool {
+            nodes: Vec::new(alloc),
+            lists: Vec::new(alloc),
+            bytes: Vec::new(alloc),
+            stmts: Vec::new(alloc),
+            cases: Vec::new(alloc),
+            names: Vec::new(alloc),
+            items: Vec::new(alloc),
+            lines: Vec::new(alloc),
+            rest: Vec::new(alloc),
+            arms: Vec::new(alloc),
+            alloc,
+            failed: false,
+        }
+    }
+
+    // ---- expressions
+
+    /// Adds an expression.
+    pub fn add(&mut self, node: Node) -> ExprId {
+        let Some(n) = next_number(self.nodes.len()) else {
+            self.failed = true;
+            return ExprId(0);
+        };
+        if self.failed || self.nodes.push(node).is_err() {
+            self.failed = true;
+            return ExprId(0);
+        }
+        ExprId(n)
+    }
+
+    /// The expression with a number; `null` where there is none.
+    pub fn node(&self, id: ExprId) -> Node {
+        match self.nodes.get(id.0 as usize) {
+            Some(node) => *node,
+            None => Node::Null,
+        }
+    }
+
+    /// These expressions in order.
+    pub fn list(&mut self, items: &[ExprId]) -> Span {
+        let from = next_number(self.lists.len());
+        let many = next_number(items.len());
+        let (Some(from), Some(many)) = (from, many) else {
+            self.failed = true;
+            return Span { from: 0, many: 0 };
+        };
+        if self.lists.extend_from_slice(items).is_err() {
+            self.failed = true;
+        }
+        Span { from, many }
+    }
+
+    /// Begins a list of expressions, which `item` adds to.
+    pub fn open_list(&self) -> Mark {
+        Mark(self.rest.len())
+    }
+
+    /// One more expression of the innermost open list.
+    pub fn item(&mut self, e: ExprId) {
+        if self.rest.push(e).is_err() {
+            self.failed = true;
+        }
+    }
+
+    /// The expressions since a list was opened.
+    pub fn close_list(&mut self, mark: Mark) -> Span {
+        let begun = mark.0.min(self.rest.len());
+        let from = next_number(self.lists.len());
+        let many = next_number(self.rest.len() - begun);
+        let (Some(from), Some(many)) = (from, many) else {
+            self.failed = true;
+            return Span { from: 0, many: 0 };
+        };
+        if self.lists.extend_from_slice(&self.rest[begun..]).is_err() {
+            self.failed = true;
+        }
+        self.rest.truncate(begun);
+        Span { from, many }
+    }
+
+    // ---- bytes
+
+    /// These bytes.
+    pub fn word(&mut self, word: &[u8]) -> Bytes {
+        let mark = self.open_bytes();
+        self.put(word);
+        self.close_bytes(mark)
+    }
+
+    /// Begins a string, which `put` and `put_number` add to. One string is made at a time.
+    pub fn open_bytes(&self) -> Mark {
+        Mark(self.bytes.len())
+    }
+
+    /// Bytes at the end of the open string.
+    pub fn put(&mut self, word: &[u8]) {
+        if self.bytes.extend_from_slice(word).is_err() {
+            self.failed = true;
+        }
+    }
+
+    /// A decimal number at the end of the open string.
+    pub fn put_number(&mut self, n: u32) {
+        let room = &mut [0; 10];
+        self.put(decimal(n, room));
+    }
+
+    /// The bytes since a string was begun.
+    pub fn close_bytes(&mut self, mark: Mark) -> Bytes {
+        let begun = mark.0.min(self.bytes.len());
+        let from = next_number(begun);
+        let many = next_number(self.bytes.len() - begun);
+        let (Some(from), Some(many)) = (from, many) else {
+            self.failed = true;
+            return Bytes { from: 0, many: 0 };
+        };
+        Bytes { from, many }
+    }
+
+    // ---- statements
+
+    /// Adds a statement to the innermost open block.
+    pub fn say(&mut self, stmt: Stmt) {
+        if self.failed || self.lines.push(stmt).is_err() {
+            self.failed = true;
+        }
+    }
+
+    /// Opens a block: the statements that follow are its own, until it is closed.
+    pub fn open(&self) -> Mark {
+        Mark(self.lines.len())
+    }
+
+    /// Closes a block, and gives its statements.
+    pub fn close(&mut self, mark: Mark) -> Block {
+        let begun = mark.0.min(self.lines.len());
+        let from = next_number(self.stmts.len());
+        let many = next_number(self.lines.len() - begun);
+        let (Some(from), Some(many)) = (from, many) else {
+            self.failed = true;
+            return Block { from: 0, many: 0 };
+        };
+        if self.stmts.extend_from_slice(&self.lines[begun..]).is_err() {
+            self.failed = true;
+        }
+        self.lines.truncate(begun);
+        Block { from, many }
+    }
+
+    /// Adds the statements of a closed block to the innermost open one.
+    pub fn include(&mut self, block: Block) {
+        let stmts = block.of(self.stmts.as_slice());
+        if self.lines.extend_from_slice(stmts).is_err() {
+            self.failed = true;
+        }
+    }
+
+    // ---- cases
+
+    /// Begins the cases of a `switch`.
+    pub fn open_cases(&self) -> Mark {
+        Mark(self.arms.len())
+    }
+
+    /// One more case of the innermost open `switch`.
+    pub fn case(&mut self, number: u32, body: Block) {
+        if self.arms.push(Case { number, body }).is_err() {
+            self.failed = true;
+        }
+    }
+
+    /// The cases since those of a `switch` were begun.
+    pub fn close_cases(&mut self, mark: Mark) -> Cases {
+        let begun = mark.0.min(self.arms.len());
+        let from = next_number(self.cases.len());
+        let many = next_number(self.arms.len() - begun);
+        let (Some(from), Some(many)) = (from, many) else {
+            self.failed = true;
+            return Cases { from: 0, many: 0 };
+        };
+        if self.cases.extend_from_slice(&self.arms[begun..]).is_err() {
+            self.failed = true;
+        }
+        self.arms.truncate(begun);
+        Cases { from, many }
+    }
+
+    // ---- items
+
+    /// Begins a list of parameters. One list of parameters is made at a time.
+    pub fn open_params(&self) -> Mark {
+        Mark(self.names.len())
+    }
+
+    /// One more parameter.
+    pub fn param(&mut self, name: Name) {
+        if self.names.push(name).is_err() {
+            self.failed = true;
+        }
+    }
+
+    /// The parameters since a list of them was begun.
+    pub fn close_params(&mut self, mark: Mark) -> Names {
+        let begun = mark.0.min(self.names.len());
+        let from = next_number(begun);
+        let many = next_number(self.names.len() - begun);
+        let (Some(from), Some(many)) = (from, many) else {
+            self.failed = true;
+            return Names { from: 0, many: 0 };
+        };
+        Names { from, many }
+    }
+
+    /// These parameters.
+    pub fn params(&mut self, names: &[Name]) -> Names {
+        let mark = self.open_params();
+        for name in names {
+            self.param(*name);
+        }
+        self.close_params(mark)
+    }
+
+    /// A function at the script's top.
+    pub fn function(&mut self, name: Name, params: Names, body: Block) {
+        self.top(Item::Function(name, params, body));
+    }
+
+    /// A variable at the script's top, with its first value.
+    pub fn global(&mut self, name: Name, e: ExprId) {
+        self.top(Item::Global(name, e));
+    }
+
+    fn top(&mut self, item: Item) {
+        if self.items.push(item).is_err() {
+            self.failed = true;
+        }
+    }
+}
+
+// The elements of a list from a number on, so many; fewer where the list ends before.
+fn part<T>(items: &[T], from: u32, many: u32) -> &[T] {
+    let n = items.len();
+    let from = (from as usize).min(n);
+    let many = (many as usize).min(n - from);
+    &items[from..from + many]
+}
+
+impl Bytes {
+    /// Its bytes.
+    pub fn of(self, table: &[u8]) -> &[u8] {
+        part(table, self.from, self.many)
+    }
+}
+
+impl Span {
+    /// Its expressions.
+    pub fn of(self, table: &[ExprId]) -> &[ExprId] {
+        part(table, self.from, self.many)
+    }
+}
+
+impl Block {
+    /// Its statements.
+    pub fn of(self, table: &[Stmt]) -> &[Stmt] {
+        part(table, self.from, self.many)
+    }
+}
+
+impl Cases {
+    /// Its cases.
+    pub fn of(self, table: &[Case]) -> &[Case] {
+        part(table, self.from, self.many)
+    }
+}
+
+impl Names {
+    /// Its names.
+    pub fn of(self, table: &[Name]) -> &[Name] {
+        part(table, self.from, self.many)
+    }
+}
