@@ -1,0 +1,232 @@
+//! Packages and their variables.
+//!
+//! Go, "Packages", "Variable declarations", "Package initialization".
+
+use crate::facts::{Facts, Owner};
+use crate::functions::is_plain_func;
+use crate::given::Given;
+use crate::judge::Judge;
+use gj_base::{NoMemory, Text};
+use go_core::node::CoreExpr;
+use go_core::program::{PackageRow, PackageVar};
+use go_type::types::TypeId;
+use std::alloc::Global;
+
+// The place of a package by its path.
+fn package_at(rows: &[PackageRow], path: &Text) -> Option<usize> {
+    'rows: for i in 0..rows.len() {
+        if rows[i].path == *path {
+            return Some(i);
+        }
+    }
+    None
+}
+
+// Whether each package that a package imports has come already.
+fn are_done(rows: &[PackageRow], done: &[bool], row: &PackageRow) -> bool {
+    for path in &row.imports.items {
+        match package_at(rows, path) {
+            Some(i) => match done.get(i) {
+                Some(true) => {}
+                _ => return false,
+            },
+            None => return false,
+        }
+    }
+    true
+}
+
+// One turn over the packages: those whose imports have come do too. Whether some did.
+fn turn(rows: &[PackageRow], done: &mut [bool]) -> bool {
+    let mut some = false;
+    'rows: for i in 0..rows.len() {
+        let is_done = match done.get(i) {
+            Some(found) => *found,
+            None => true,
+        };
+        if !is_done && are_done(rows, done, &rows[i]) {
+            if let Some(slot) = done.get_mut(i) {
+                *slot = true;
+                some = true;
+            }
+        }
+    }
+    some
+}
+
+fn all_done(done: &[bool]) -> bool {
+    for x in done {
+        if !*x {
+            return false;
+        }
+    }
+    true
+}
+
+/// Whether each package imports packages of the program alone, and none leads back to itself.
+pub fn imports_are_sound(alloc: Global, rows: &[PackageRow]) -> Result<bool, NoMemory> {
+    let mut done = Vec::new(alloc);
+    for _ in 0..rows.len() {
+        done.push(false)?;
+    }
+    for _ in 0..rows.len() {
+        if !turn(rows, done.as_mut_slice()) {
+            return Ok(all_done(done.as_slice()));
+        }
+    }
+    Ok(all_done(done.as_slice()))
+}
+
+/// Whether no two packages have one path.
+pub fn paths_differ(rows: &[PackageRow]) -> bool {
+    'rows: for i in 0..rows.len() {
+        match package_at(rows, &rows[i].path) {
+            Some(first) => {
+                if first != i {
+                    return false;
+                }
+            }
+            None => return false,
+        }
+    }
+    true
+}
+
+/// Whether the `init` functions of a package are functions as `init` is.
+pub fn inits_are_sound(facts: &Facts, row: &PackageRow) -> bool {
+    for id in &row.inits.items {
+        if !is_plain_func(facts, *id) {
+            return false;
+        }
+    }
+    true
+}
+
+// The variable that holds the initialiser of the one at this place, which stands before it or is it.
+fn has_holder(vars: &[PackageVar], at: usize) -> bool {
+    let x = &vars[at];
+    if x.first == x.number {
+        return true;
+    }
+    'before: for k in 0..at {
+        let y = &vars[at - 1 - k];
+        if y.package == x.package && y.number == x.first {
+            return y.first == y.number;
+        }
+    }
+    false
+}
+
+/// Whether package variables have numbers that rise in each package, and each of them a package and
+/// the variable with its initialiser.
+pub fn numbers_are_sound(alloc: Global, facts: &Facts) -> Result<bool, NoMemory> {
+    let rows = facts.program.packages.items.as_slice();
+    let vars = facts.program.globals.items.as_slice();
+    let mut last: Vec<Option<u64>> = Vec::new(alloc);
+    for _ in 0..rows.len() {
+        last.push(None)?;
+    }
+    'vars: for i in 0..vars.len() {
+        let Some(package) = package_at(rows, &vars[i].package) else {
+            return Ok(false);
+        };
+        if !rises(last.as_mut_slice(), package, vars[i].number) {
+            return Ok(false);
+        }
+        if !facts.has(vars[i].ty) || !has_holder(vars, i) {
+            return Ok(false);
+        }
+    }
+    Ok(true)
+}
+
+// Whether a number is above the last one of its package.
+fn rises(last: &mut [Option<u64>], package: usize, number: u64) -> bool {
+    let Some(slot) = last.get_mut(package) else {
+        return false;
+    };
+    if let Some(before) = *slot {
+        if before >= number {
+            return false;
+        }
+    }
+    *slot = Some(number);
+    true
+}
+
+// The types of the variables that one initialiser sets.
+fn set_types(
+    alloc: Global,
+    vars: &[PackageVar],
+    x: &PackageVar,
+    at: usize,
+) -> Result<Vec<TypeId>, NoMemory> {
+    let mut types = Vec::new(alloc);
+    'vars: for i in at..vars.len() {
+        if vars[i].first == x.number && vars[i].package == x.package {
+            types.push(vars[i].ty)?;
+        }
+    }
+    Ok(types)
+}
+
+fn gives_all(given: Given<'_>, types: &[TypeId]) -> bool {
+    if given.len() != types.len() {
+        return false;
+    }
+    'each: for i in 0..types.len() {
+        match given.at(i) {
+            Some(t) => {
+                if t.0 != types[i].0 {
+                    return false;
+                }
+            }
+            None => return false,
+        }
+    }
+    true
+}
+
+// One value for each variable that the initialiser sets.
+fn initialises<'f, 'p>(
+    judge: &mut Judge<'f, 'p>,
+    x: &PackageVar,
+    at: usize,
+    e: &'p CoreExpr,
+) -> Result<bool, NoMemory> {
+    let Some(given) = judge.expr(e) else {
+        return Ok(false);
+    };
+    if given.len() == 1 {
+        return Ok(x.first == x.number && gives_all(given, &[x.ty]) && is_alone(judge, x, at));
+    }
+    let types = set_types(
+        judge.alloc,
+        judge.facts.program.globals.items.as_slice(),
+        x,
+        at,
+    )?;
+    Ok(x.first == x.number && gives_all(given, types.as_slice()))
+}
+
+// Whether the next variable has an initialiser of its own.
+fn is_alone(judge: &Judge, x: &PackageVar, at: usize) -> bool {
+    match judge.facts.program.globals.items.as_slice().get(at + 1) {
+        Some(y) => y.first != x.number || y.package != x.package,
+        None => true,
+    }
+}
+
+/// Whether the initialiser of a package variable is sound.
+pub fn var_is_sound<'f, 'p>(
+    judge: &mut Judge<'f, 'p>,
+    at: usize,
+    x: &'p PackageVar,
+) -> Result<bool, NoMemory> {
+    judge.owner = Owner::Initialiser(at);
+    judge.results = &[];
+    match &x.initialiser {
+        Some(e) => initialises(judge, x, at, e),
+        None => Ok(true),
+    }
+}
