@@ -1,0 +1,185 @@
+//! How values of a type are held in the script.
+
+use gj_base::Kind;
+use go_type::TypeTable;
+use go_type::types::{Basis, FieldRow, GoType, IntName, MethodSpec, Sig, TypeId};
+
+/// How a value is held.
+#[derive(Clone, Copy)]
+pub enum Held {
+    Truth,
+    Str,
+    /// A number of up to 32 bits.
+    Small(Kind),
+    /// Two halves.
+    Wide(Kind),
+    /// An array that is compared by identity, or null: a channel, a pointer to a struct or an array.
+    Itself,
+    /// An array of a holding array and an index, or null: a pointer to anything else.
+    Pointer,
+    Interface,
+    Slice,
+    Map,
+    Func,
+    /// An array of so many fields.
+    Struct(u32),
+    /// An array of so many elements of a type.
+    Array(u32, TypeId),
+}
+
+/// The kind of an integer type.
+pub fn kind_of(name: IntName) -> Kind {
+    match name {
+        IntName::Int | IntName::Int32 => Kind::I32,
+        IntName::Uint | IntName::Uint32 | IntName::Uintptr => Kind::U32,
+        IntName::Int8 => Kind::I8,
+        IntName::Int16 => Kind::I16,
+        IntName::Int64 => Kind::I64,
+        IntName::Uint8 => Kind::U8,
+        IntName::Uint16 => Kind::U16,
+        IntName::Uint64 => Kind::U64,
+    }
+}
+
+fn held_int(kind: Kind) -> Held {
+    match kind {
+        Kind::I64 | Kind::U64 => Held::Wide(kind),
+        _ => Held::Small(kind),
+    }
+}
+
+fn held_untyped(basis: Basis) -> Held {
+    match basis {
+        Basis::Bool => Held::Truth,
+        Basis::Str => Held::Str,
+        Basis::Int | Basis::Rune => Held::Small(Kind::I32),
+    }
+}
+
+/// The underlying type of a type, which is the same number for identical ones.
+pub fn underlying(table: &TypeTable, t: TypeId) -> TypeId {
+    if t.0 < table.len() {
+        return table.underlying(t);
+    }
+    t
+}
+
+/// One level of the underlying type.
+pub fn level(table: &TypeTable, t: TypeId) -> Option<&GoType> {
+    if t.0 < table.len() {
+        return Some(table.get(table.underlying(t)));
+    }
+    None
+}
+
+/// How values of a type are held.
+pub fn held_as(table: &TypeTable, t: TypeId) -> Held {
+    match level(table, t) {
+        Some(GoType::Bool) => Held::Truth,
+        Some(GoType::Str) => Held::Str,
+        Some(GoType::Int(name)) => held_int(kind_of(*name)),
+        Some(GoType::Untyped(basis)) => held_untyped(*basis),
+        Some(GoType::Pointer(to)) => held_pointer(table, *to),
+        Some(GoType::Interface(_)) => Held::Interface,
+        Some(GoType::Slice(_)) => Held::Slice,
+        Some(GoType::Map(_, _)) => Held::Map,
+        Some(GoType::Func(_)) => Held::Func,
+        Some(GoType::Struct(fields)) => Held::Struct(counted(fields.as_slice().len())),
+        Some(GoType::Array(n, of)) => Held::Array(*n, *of),
+        _ => Held::Itself,
+    }
+}
+
+fn counted(n: usize) -> u32 {
+    if n < 4294967295 { n as u32 } else { 0 }
+}
+
+fn held_pointer(table: &TypeTable, to: TypeId) -> Held {
+    if is_block(table, to) {
+        return Held::Itself;
+    }
+    Held::Pointer
+}
+
+/// Whether values of a type are arrays that are written in place: those of structs and arrays.
+pub fn is_block(table: &TypeTable, t: TypeId) -> bool {
+    match level(table, t) {
+        Some(GoType::Struct(_)) | Some(GoType::Array(_, _)) => true,
+        _ => false,
+    }
+}
+
+/// How many elements the array of a struct or an array has.
+pub fn parts(table: &TypeTable, t: TypeId) -> u32 {
+    match held_as(table, t) {
+        Held::Struct(n) => n,
+        Held::Array(n, _) => n,
+        _ => 0,
+    }
+}
+
+/// The kind of an integer type; `I32` for any other.
+pub fn int_kind(table: &TypeTable, t: TypeId) -> Kind {
+    match held_as(table, t) {
+        Held::Small(kind) => kind,
+        Held::Wide(kind) => kind,
+        _ => Kind::I32,
+    }
+}
+
+/// The fields of a struct type.
+pub fn fields(table: &TypeTable, t: TypeId) -> &[FieldRow] {
+    match level(table, t) {
+        Some(GoType::Struct(fields)) => fields.as_slice(),
+        _ => &[],
+    }
+}
+
+/// The type of a field; the struct type itself where it has no such field.
+pub fn field_type(table: &TypeTable, t: TypeId, number: u32) -> TypeId {
+    match fields(table, t).get(number as usize) {
+        Some(row) => row.ty,
+        None => t,
+    }
+}
+
+/// The methods of an interface type.
+pub fn methods(table: &TypeTable, t: TypeId) -> &[MethodSpec] {
+    match level(table, t) {
+        Some(GoType::Interface(methods)) => methods.as_slice(),
+        _ => &[],
+    }
+}
+
+/// The signature of a function type.
+pub fn signature(table: &TypeTable, t: TypeId) -> Option<&Sig> {
+    match level(table, t) {
+        Some(GoType::Func(sig)) => Some(sig),
+        _ => None,
+    }
+}
+
+/// The type of the elements of an array, a slice, a channel or a map, or of what a pointer points to.
+pub fn element(table: &TypeTable, t: TypeId) -> TypeId {
+    match level(table, t) {
+        Some(GoType::Array(_, e)) => *e,
+        Some(GoType::Slice(e)) => *e,
+        Some(GoType::Chan(_, e)) => *e,
+        Some(GoType::Map(_, e)) => *e,
+        Some(GoType::Pointer(e)) => *e,
+        _ => t,
+    }
+}
+
+/// The type of the keys of a map.
+pub fn key(table: &TypeTable, t: TypeId) -> TypeId {
+    match level(table, t) {
+        Some(GoType::Map(k, _)) => *k,
+        _ => t,
+    }
+}
+
+/// Whether two types are one.
+pub fn identical(a: TypeId, b: TypeId) -> bool {
+    a.0 == b.0
+}
