@@ -1,0 +1,5 @@
+//! The package `fmt`.
+
+/// The text of the package `fmt`.
+pub const FMT: &str = "package fmt
+";

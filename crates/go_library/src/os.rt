@@ -1,0 +1,5 @@
+//! The package `os`.
+
+/// The text of the package `os`.
+pub const OS: &str = "package os
+";

@@ -1,0 +1,5 @@
+//! The package `runtime`.
+
+/// The text of the package `runtime`.
+pub const RUNTIME: &str = "package runtime
+";

@@ -1,0 +1,5 @@
+//! The package `strconv`.
+
+/// The text of the package `strconv`.
+pub const STRCONV: &str = "package strconv
+";

@@ -1,0 +1,5 @@
+//! The package `strings`.
+
+/// The text of the package `strings`.
+pub const STRINGS: &str = "package strings
+";

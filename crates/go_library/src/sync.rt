@@ -1,0 +1,5 @@
+//! The package `sync`.
+
+/// The text of the package `sync`.
+pub const SYNC: &str = "package sync
+";
