@@ -314,7 +314,7 @@ pub fn end(c: &mut Checker, b: &Building) -> Result<Operand, NoMemory> {
         return c.fail(FaultCode::BadLiteral, b.place);
     }
     let ty = match b.kind {
-        Kind::Counted => crate::types::array_type(c, b.place, Some(b.count), b.of)?,
+        Kind::Counted => go_check_type::type_row::array_type(c, b.place, Some(b.count), b.of)?,
         _ => b.ty,
     };
     if !b.known || b.kind == Kind::Nothing || !c.has(ty) {

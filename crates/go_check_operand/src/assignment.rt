@@ -1,9 +1,9 @@
 //! Values where a type is wanted, and where none is. Go, "Assignability".
 
 use crate::untyped::{convert_untyped, default_type, is_untyped};
+use gj_base::NoMemory;
 use go_check_state::node::Node;
 use go_check_state::{Checker, FaultCode, Mode, Operand, Shape};
-use gj_base::NoMemory;
 use go_type::types::TypeId;
 
 /// An operand that is to be one value: F52 at a type, a package, a built-in, or a call without one result.

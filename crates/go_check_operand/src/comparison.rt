@@ -4,9 +4,9 @@ use crate::assignment::value_of;
 use crate::binary::fold;
 use crate::unary::folded;
 use crate::untyped::{convert_untyped, default_type};
+use gj_base::{NoMemory, Op, Place};
 use go_check_state::node::{ConstId, Node};
 use go_check_state::{Checker, FaultCode, Operand, Shape};
-use gj_base::{NoMemory, Op, Place};
 use go_const::ConstRefusal;
 use go_type::predeclared::untyped_id;
 use go_type::types::{Basis, TypeId};
@@ -37,8 +37,7 @@ fn only_beside_nil(c: &Checker, t: TypeId) -> bool {
 // Whether the two can be compared by the operator.
 fn can_compare(c: &Checker, op: Op, x: Operand, y: Operand, beside_nil: bool) -> bool {
     if !is_equality(op) {
-        return c.is_integer(x.ty) && c.is_integer(y.ty)
-            || c.is_string(x.ty) && c.is_string(y.ty);
+        return c.is_integer(x.ty) && c.is_integer(y.ty) || c.is_string(x.ty) && c.is_string(y.ty);
     }
     if c.is_untyped(x.ty) && c.is_untyped(y.ty) {
         return true;

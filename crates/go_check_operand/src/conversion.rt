@@ -3,9 +3,9 @@
 use crate::assignment::{default_value, single_value, value_of};
 use crate::unary::folded;
 use crate::untyped::{Represented, convert_untyped, is_untyped, refuse_shifts, represent};
+use gj_base::{NoMemory, Place};
 use go_check_state::node::{ConstId, Node};
 use go_check_state::{Checker, FaultCode, Operand, Shape};
-use gj_base::{NoMemory, Place};
 use go_const::{Basic, Const, ConstRefusal};
 use go_type::types::{Dir, IntName, TypeId};
 

@@ -2,8 +2,8 @@
 
 use crate::assignment::single_value;
 use crate::untyped::convert_untyped;
-use go_check_state::{Checker, FaultCode, Operand};
 use gj_base::NoMemory;
+use go_check_state::{Checker, FaultCode, Operand};
 use go_type::predeclared::int_id;
 use go_type::types::IntName;
 

@@ -5,9 +5,9 @@ ghost use Rattle.go_const.specs.Operation.{is_shift, IsWhole};
 
 use crate::unary::{folded, kind_in};
 use crate::untyped::{Represented, convert_untyped, represent};
+use gj_base::{NoMemory, Op, Place};
 use go_check_state::node::{ConstId, Node};
 use go_check_state::{Checker, FaultCode, Operand};
-use gj_base::{NoMemory, Op, Place};
 use go_const::{Const, ConstRefusal};
 use go_type::predeclared::int_id;
 use go_type::types::IntName;
@@ -109,12 +109,7 @@ fn is_whole(x: &Const) -> bool
     }
 }
 
-fn fold(
-    op: Op,
-    x: &Const,
-    y: &Const,
-    kind: Option<gj_base::Kind>,
-) -> Result<Const, ConstRefusal> {
+fn fold(op: Op, x: &Const, y: &Const, kind: Option<gj_base::Kind>) -> Result<Const, ConstRefusal> {
     if is_shift(op) && is_whole(x) && is_whole(y) {
         return go_const::shift(op, x, y, kind);
     }

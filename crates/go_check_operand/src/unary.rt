@@ -1,10 +1,10 @@
 //! Unary operators on values. Go, "Arithmetic operators", "Logical operators".
 
 use crate::assignment::single_value;
+use gj_base::{Kind, NoMemory, Op, Place};
 use go_check_state::constants::kind_of;
 use go_check_state::node::Node;
 use go_check_state::{Checker, FaultCode, Operand, Shape};
-use gj_base::{Kind, NoMemory, Op, Place};
 use go_const::{Const, ConstRefusal};
 use go_type::types::TypeId;
 

@@ -1,9 +1,9 @@
 //! Untyped operands that take a type. Go, "Constants", "Representability".
 
-use go_check_state::node::{ConstId, Node, NodeId};
-use go_check_state::constants::kind_of;
-use go_check_state::{Checker, FaultCode, Mode, NONE, Operand, Shape};
 use gj_base::{NoMemory, Op};
+use go_check_state::constants::kind_of;
+use go_check_state::node::{ConstId, Node, NodeId};
+use go_check_state::{Checker, FaultCode, Mode, NONE, Operand, Shape};
 use go_const::{Const, fits};
 use go_type::predeclared::{BOOL, STR, int_id, untyped_id};
 use go_type::types::{Basis, IntName, TypeId};
@@ -110,12 +110,7 @@ fn settle_one(
 }
 
 // A constant in the type: F32 where that doesn't hold it.
-fn settle_const(
-    c: &mut Checker,
-    id: NodeId,
-    value: ConstId,
-    t: TypeId,
-) -> Result<(), NoMemory> {
+fn settle_const(c: &mut Checker, id: NodeId, value: ConstId, t: TypeId) -> Result<(), NoMemory> {
     let at = c.nodes.place_of(id);
     match represent(c, value, t)? {
         Represented::Value(value) => {
@@ -127,12 +122,7 @@ fn settle_const(
     }
 }
 
-fn settle_comparison(
-    c: &mut Checker,
-    id: NodeId,
-    node: Node,
-    t: TypeId,
-) -> Result<(), NoMemory> {
+fn settle_comparison(c: &mut Checker, id: NodeId, node: Node, t: TypeId) -> Result<(), NoMemory> {
     match node {
         Node::Equal {
             negated,
@@ -176,7 +166,10 @@ fn untyped_parts(node: Node, rest: &mut Vec<NodeId>) -> Result<(), NoMemory> {
     match node {
         Node::Unary { operand, .. } | Node::Not { operand, .. } => rest.push(operand)?,
         Node::Binary {
-            op, left, right, ..
+            op,
+            left,
+            right,
+            ..
         } => {
             rest.push(left)?;
             match op {
@@ -345,11 +338,7 @@ fn convert_operand(
 }
 
 // Two untyped operands take the kind that comes later: integer, rune.
-fn match_untyped(
-    c: &mut Checker,
-    x: Operand,
-    y: Operand,
-) -> Result<(Operand, Operand), NoMemory> {
+fn match_untyped(c: &mut Checker, x: Operand, y: Operand) -> Result<(Operand, Operand), NoMemory> {
     let (Shape::Untyped(a), Shape::Untyped(b)) = (c.level(x.ty), c.level(y.ty)) else {
         let x = c.fail(FaultCode::OperandMismatch, x.place)?;
         return Ok((x, y));
