@@ -72,7 +72,11 @@ fn set(flags: &mut Vec<bool>, n: usize) {
 
 impl<'p> Facts<'p> {
     /// What is known of a program whose marked functions are these.
-    pub fn new(alloc: Global, program: &'p Program, marks: &FuncSet) -> Result<Facts<'p>, NoMemory> {
+    pub fn new(
+        alloc: Global,
+        program: &'p Program,
+        marks: &FuncSet,
+    ) -> Result<Facts<'p>, NoMemory> {
         let funcs = program.funcs.items.len();
         let types = program.types.len() as usize;
         let mut facts = Facts {
@@ -289,7 +293,13 @@ impl<'p> Facts<'p> {
     }
 
     /// Notes that a method of an interface value is taken as a value of a type.
-    pub fn take_dynamic(&mut self, t: TypeId, name: &'p Text, package: &'p Text, receiver: &'p CoreExpr) {
+    pub fn take_dynamic(
+        &mut self,
+        t: TypeId,
+        name: &'p Text,
+        package: &'p Text,
+        receiver: &'p CoreExpr,
+    ) {
         let from = type_of(self.table(), receiver);
         if self.is_marked_method(from, name, package) {
             self.mark_type(t);

@@ -56,6 +56,22 @@ fn held_untyped(basis: Basis) -> Held {
     }
 }
 
+/// Whether numbers of a kind have a sign.
+pub fn is_signed(kind: Kind) -> bool {
+    match kind {
+        Kind::I8 | Kind::I16 | Kind::I32 | Kind::I64 => true,
+        Kind::U8 | Kind::U16 | Kind::U32 | Kind::U64 => false,
+    }
+}
+
+/// Whether a number of a kind is two halves.
+pub fn is_wide(kind: Kind) -> bool {
+    match kind {
+        Kind::I64 | Kind::U64 => true,
+        _ => false,
+    }
+}
+
 /// The underlying type of a type, which is the same number for identical ones.
 pub fn underlying(table: &TypeTable, t: TypeId) -> TypeId {
     if t.0 < table.len() {

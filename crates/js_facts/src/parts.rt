@@ -122,7 +122,9 @@ impl<'p> Facts<'p> {
             | CoreForm::AndThen { left, right, .. }
             | CoreForm::OrElse { left, right, .. } => self.push_two(left, right),
             CoreForm::Call {
-                callee, operands, ..
+                callee,
+                operands,
+                ..
             } => {
                 self.push_callee(callee);
                 self.push_exprs(operands.items.as_slice());
@@ -162,11 +164,15 @@ impl<'p> Facts<'p> {
             }
             CoreForm::MapGet { operand, key, .. } => self.push_two(operand, key),
             CoreForm::Append {
-                operand, elements, ..
+                operand,
+                elements,
+                ..
             } => self.push_two(operand, elements),
             CoreForm::CopyElems { target, source, .. } => self.push_two(target, source),
             CoreForm::MakeSlice {
-                length, capacity, ..
+                length,
+                capacity,
+                ..
             } => {
                 self.push_expr(length);
                 self.push_bound(capacity);

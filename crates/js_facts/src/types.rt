@@ -72,13 +72,7 @@ pub fn value_count(e: &CoreExpr) -> usize {
         CoreForm::Call { results, .. } => results.as_slice().len(),
         CoreForm::MapGet { with_ok, .. }
         | CoreForm::Assert { with_ok, .. }
-        | CoreForm::Receive { with_ok, .. } => {
-            if *with_ok {
-                2
-            } else {
-                1
-            }
-        }
+        | CoreForm::Receive { with_ok, .. } => { if *with_ok { 2 } else { 1 } }
         CoreForm::Let { body, .. } => value_count(body),
         _ => 1,
     }

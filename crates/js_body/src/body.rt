@@ -1,0 +1,363 @@
+//! The state of a translation, for one function after another.
+
+use crate::frame::{BEGINNING, HEAD};
+use go_core::node::{Var, VarId};
+use go_core::statement::Label;
+use go_core::tree::FuncId;
+use go_type::TypeTable;
+use go_type::types::TypeId;
+use js_facts::Facts;
+use js_pool::{Cases, ExprId, Mark, Name, Pool};
+
+/// What is known of a value before the script runs.
+#[derive(Clone, Copy, PartialEq, Eq)]
+pub enum Known {
+    /// Nothing: it is a temporary.
+    Nothing,
+    /// A number of up to 32 bits.
+    Number(i64),
+    Nil,
+    /// A constant of another kind.
+    Constant,
+}
+
+/// A value on the stack: a temporary, whose number is that of its place there, or a constant.
+#[derive(Clone, Copy)]
+pub struct Operand {
+    pub e: ExprId,
+    pub known: Known,
+}
+
+/// Where a variable is: in a slot, where it is boxed in an array of its own.
+#[derive(Clone, Copy)]
+pub struct Home {
+    pub ty: TypeId,
+    pub boxed: bool,
+    pub slot: u32,
+}
+
+/// Where branches to a label lead: cases of a machine, or labels of a plain function's blocks.
+#[derive(Clone, Copy)]
+pub struct Exits {
+    pub label: Label,
+    pub after: u32,
+    pub next: u32,
+}
+
+/// All that is known while functions become functions of the script.
+#[derive(Drop)]
+pub struct Body<'p> {
+    pub pool: Pool,
+    pub facts: Facts<'p>,
+    /// Whether this is a plain function.
+    pub plain: bool,
+    /// The function; for what comes before `main` no function.
+    pub func: Option<FuncId>,
+    /// Slots of variables by their numbers.
+    slots: Vec<u32>,
+    /// The results, in order, and whether calls are deferred.
+    pub results: Vec<Home>,
+    pub defers: bool,
+    /// Values, from the first one on; how many temporaries there are.
+    pub stack: Vec<Operand>,
+    pub temps: u32,
+    /// The labels around.
+    pub exits: Vec<Exits>,
+    pub next_case: u32,
+    pub next_slot: u32,
+    /// The case that is open, and where its statements begin; where the cases begin.
+    pub open_case: u32,
+    pub open_lines: Mark,
+    pub first_case: Mark,
+}
+
+impl<'p> Body<'p> {
+    /// A state with tables and facts, before any function.
+    pub fn new(pool: Pool, facts: Facts<'p>) -> Body<'p> {
+        let alloc = pool.alloc;
+        let open_lines = pool.open();
+        let first_case = pool.open_cases();
+        Body {
+            pool,
+            facts,
+            plain: false,
+            func: None,
+            slots: Vec::new(alloc),
+            results: Vec::new(alloc),
+            defers: false,
+            stack: Vec::new(alloc),
+            temps: 0,
+            exits: Vec::new(alloc),
+            next_case: BEGINNING + 1,
+            next_slot: HEAD,
+            open_case: BEGINNING,
+            open_lines,
+            first_case,
+        }
+    }
+
+    /// The types.
+    pub fn table(&self) -> &'p TypeTable {
+        self.facts.table()
+    }
+
+    // ---- functions
+
+    /// Begins a function without variables.
+    pub fn begin(&mut self, plain: bool) {
+        self.plain = plain;
+        self.func = None;
+        self.results.truncate(0);
+        self.defers = false;
+        self.stack.truncate(0);
+        self.temps = 0;
+        self.exits.truncate(0);
+        self.next_case = BEGINNING + 1;
+        self.next_slot = HEAD;
+        self.first_case = self.pool.open_cases();
+    }
+
+    /// Begins a function of the program: its variables have slots, then those that it captured.
+    pub fn begin_func(&mut self, id: FuncId, plain: bool) {
+        self.begin(plain);
+        self.func = Some(id);
+        self.defers = self.facts.defers(id);
+        if let Some(f) = self.facts.func(id) {
+            self.add_homes(f.vars.items.as_slice());
+            for v in f.captured.items.as_slice() {
+                self.add_home(*v);
+            }
+            let from = self.facts.param_count(id);
+            let vars = f.vars.items.as_slice();
+            for i in 0..f.sig.results.as_slice().len() {
+                if let Some(v) = vars.get(from.saturating_add(i)) {
+                    self.add_result(v.id);
+                }
+            }
+        }
+    }
+
+    /// The next slots are those of these variables.
+    pub fn add_homes(&mut self, vars: &'p [Var]) {
+        for v in vars {
+            self.add_home(v.id);
+        }
+    }
+
+    fn add_home(&mut self, v: VarId) {
+        let slot = self.fresh_slots(1);
+        self.set_slot_of(v, slot);
+    }
+
+    // A variable's slot is noted under its number.
+    fn set_slot_of(&mut self, v: VarId, slot: u32) {
+        let n = self.facts.var(v).number as usize;
+        if n >= self.facts.var_count() {
+            return;
+        }
+        for _ in self.slots.len()..self.facts.var_count() {
+            if self.slots.push(0).is_err() {
+                self.pool.failed = true;
+            }
+        }
+        if n < self.slots.len() {
+            self.slots[n] = slot;
+        }
+    }
+
+    fn add_result(&mut self, v: VarId) {
+        let h = self.home(v);
+        if self.results.push(h).is_err() {
+            self.pool.failed = true;
+        }
+    }
+
+    /// The home of a variable.
+    pub fn home(&self, v: VarId) -> Home {
+        let fact = self.facts.var(v);
+        let slot = match self.slots.get(fact.number as usize) {
+            Some(n) => *n,
+            None => 0,
+        };
+        Home {
+            ty: fact.ty,
+            boxed: fact.boxed && !self.is_block(fact.ty),
+            slot,
+        }
+    }
+
+    /// Fresh slots, for what a range holds; the first of them.
+    pub fn fresh_slots(&mut self, count: u32) -> u32 {
+        let n = self.next_slot;
+        self.next_slot = n.saturating_add(count);
+        n
+    }
+
+    /// Fresh numbers of cases or labels; the first of them.
+    pub fn fresh(&mut self, count: u32) -> u32 {
+        let n = self.next_case;
+        self.next_case = n.saturating_add(count);
+        n
+    }
+
+    /// The cases of the machine that is done.
+    pub fn close_machine(&mut self) -> Cases {
+        self.close_case();
+        self.pool.close_cases(self.first_case)
+    }
+
+    // ---- the frame, and variables of the script
+
+    /// The frame of a machine.
+    pub fn frame(&mut self) -> ExprId {
+        self.pool.name(b"$f")
+    }
+
+    /// What stands in a slot.
+    pub fn slot(&mut self, n: u32) -> ExprId {
+        if self.plain {
+            return self.pool.name_of(b"$v", n);
+        }
+        let f = self.frame();
+        self.pool.at(f, n as u64)
+    }
+
+    /// Sets a slot.
+    pub fn set_slot(&mut self, n: u32, e: ExprId) {
+        if self.plain {
+            self.pool.assign(Name::Numbered(b"$v", n), e);
+            return;
+        }
+        let f = self.frame();
+        self.pool.store_at(f, n as u64, e);
+    }
+
+    // ---- values on the stack
+
+    /// How many values there are.
+    pub fn depth(&self) -> usize {
+        self.stack.len()
+    }
+
+    fn put(&mut self, o: Operand) {
+        if self.stack.push(o).is_err() {
+            self.pool.failed = true;
+        }
+    }
+
+    // The temporary at a place of the stack.
+    fn temp(&mut self, place: usize) -> Name {
+        let k = if place < 4294967295 { place as u32 } else { 0 };
+        if self.temps <= k {
+            self.temps = k.saturating_add(1);
+        }
+        Name::Numbered(b"$t", k)
+    }
+
+    /// One more value, in its temporary.
+    pub fn push(&mut self, e: ExprId) {
+        let x = self.temp(self.stack.len());
+        self.pool.assign(x, e);
+        let e = self.pool.named(x);
+        self.put(Operand {
+            e,
+            known: Known::Nothing,
+        });
+    }
+
+    /// One more value, a constant.
+    pub fn push_known(&mut self, e: ExprId, known: Known) {
+        self.put(Operand { e, known });
+    }
+
+    /// One more value, which is this operand.
+    pub fn push_operand(&mut self, o: Operand) {
+        match o.known {
+            Known::Nothing => self.push(o.e),
+            known => self.push_known(o.e, known),
+        }
+    }
+
+    /// Takes the last value from the stack.
+    pub fn pop(&mut self) -> Operand {
+        match self.stack.pop() {
+            Some(o) => o,
+            None => Operand {
+                e: ExprId(0),
+                known: Known::Nil,
+            },
+        }
+    }
+
+    /// The value at a place of the stack.
+    pub fn value_at(&self, place: usize) -> Operand {
+        match self.stack.get(place) {
+            Some(o) => *o,
+            None => Operand {
+                e: ExprId(0),
+                known: Known::Nil,
+            },
+        }
+    }
+
+    /// Takes all values from a place on from the stack.
+    pub fn drop_to(&mut self, place: usize) {
+        self.stack.truncate(place);
+    }
+
+    /// Sets the temporary of a value on the stack anew.
+    pub fn set_value(&mut self, place: usize, e: ExprId) {
+        let x = self.temp(place);
+        self.pool.assign(x, e);
+        let e = self.pool.named(x);
+        if place < self.stack.len() {
+            self.stack[place] = Operand {
+                e,
+                known: Known::Nothing,
+            };
+        }
+    }
+
+    /// The last value becomes a temporary, where it is a constant.
+    pub fn settle(&mut self) {
+        let o = self.pop();
+        match o.known {
+            Known::Nothing => self.put(o),
+            _ => self.push(o.e),
+        }
+    }
+
+    /// A temporary above all values, which is gone with the next one.
+    pub fn scratch(&mut self, e: ExprId) -> ExprId {
+        self.push(e);
+        self.pop().e
+    }
+
+    // ---- labels
+
+    /// Where branches to a label lead.
+    pub fn exits_of(&self, label: Label) -> Exits {
+        for e in self.exits.as_slice() {
+            if e.label == label {
+                return *e;
+            }
+        }
+        Exits {
+            label,
+            after: 0,
+            next: 0,
+        }
+    }
+
+    /// Branches to a label lead here from now on.
+    pub fn enter_label(&mut self, label: Label, after: u32, next: u32) {
+        if self.exits.push(Exits { label, after, next }).is_err() {
+            self.pool.failed = true;
+        }
+    }
+
+    /// The innermost label is left.
+    pub fn leave_label(&mut self) {
+        let _ = self.exits.pop();
+    }
+}
