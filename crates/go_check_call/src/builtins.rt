@@ -1,13 +1,14 @@
 //! Calls of built-in functions. Go, "Built-in functions".
 
-use crate::calls::{spread, within};
+use crate::calls::{elements, spread, within};
+use crate::host::host;
 use gj_base::{NoMemory, Place};
 use go_check_operand::assignment::{assignment, default_value, single_value};
 use go_check_operand::index::index;
 use go_check_state::node::{Node, NodeId, Span, StmtNode};
 use go_check_state::{Builtin, Checker, FaultCode, Mode, NONE, Operand, Shape};
 use go_const::Const;
-use go_type::predeclared::{STR, int_id};
+use go_type::predeclared::int_id;
 use go_type::types::{Dir, IntName, TypeId};
 
 /// The name of a built-in function.
@@ -98,7 +99,8 @@ fn row(
     }
 }
 
-fn any(c: &mut Checker) -> Result<TypeId, NoMemory> {
+/// The empty interface type.
+pub fn any(c: &mut Checker) -> Result<TypeId, NoMemory> {
     c.interface_of(Vec::new(c.alloc))
 }
 
@@ -196,16 +198,7 @@ fn append(
         }
         return append_slice(c, place, x, of, args.get(1).copied());
     }
-    let mut list: Vec<u32> = Vec::new(c.alloc);
-    let mut known = true;
-    for number in 1..args.len() {
-        if let Some(y) = args.get(number).copied() {
-            let y = assignment(c, y, of)?;
-            known &= !y.is_unknown();
-            list.push((number - 1) as u32)?;
-            list.push(y.node.0)?;
-        }
-    }
+    let (list, known) = elements(c, of, args, 1)?;
     if !known {
         return c.unknown(place);
     }
@@ -456,8 +449,8 @@ fn panic(c: &mut Checker, place: Place, x: Operand) -> Result<Operand, NoMemory>
     done(c, place, StmtNode::Panic(x.node))
 }
 
-// A call that is a statement of the core.
-fn done(c: &mut Checker, place: Place, node: StmtNode) -> Result<Operand, NoMemory> {
+/// A call that is a statement of the core.
+pub fn done(c: &mut Checker, place: Place, node: StmtNode) -> Result<Operand, NoMemory> {
     let stmt = c.nodes.stmt(node)?;
     c.operand(Mode::NoValue, place, NONE, Node::Do(stmt))
 }
@@ -522,77 +515,4 @@ fn recover(c: &mut Checker, place: Place) -> Result<Operand, NoMemory> {
     c.has_call = true;
     let ty = any(c)?;
     c.value(place, ty, Node::Recover { ty })
-}
-
-// The compiler's own functions.
-fn host(
-    c: &mut Checker,
-    place: Place,
-    b: Builtin,
-    x: Option<Operand>,
-    y: Option<Operand>,
-) -> Result<Operand, NoMemory> {
-    let int = int_id(IntName::Int);
-    let cell = c.pointer_to(int)?;
-    let gate = c.pointer_to(cell)?;
-    let any = any(c)?;
-    let wanted = match b {
-        Builtin::HostWrite | Builtin::HostFatal => STR,
-        Builtin::HostExit => int,
-        Builtin::HostGateMake => gate,
-        Builtin::HostBasic => any,
-        _ => cell,
-    };
-    let mut known = true;
-    let mut first = NodeId(u32::MAX);
-    if let Some(x) = x {
-        let x = assignment(c, x, wanted)?;
-        known &= !x.is_unknown();
-        first = x.node;
-    }
-    let mut second = NodeId(u32::MAX);
-    if let Some(y) = y {
-        let y = assignment(c, y, int)?;
-        known &= !y.is_unknown();
-        second = y.node;
-    }
-    if !known {
-        return c.unknown(place);
-    }
-    match b {
-        Builtin::HostGateMake => c.value(place, cell, Node::GateMake { pointer: first }),
-        Builtin::HostGateAdd => {
-            let node = Node::GateAdd {
-                cell: first,
-                number: second,
-            };
-            c.value(place, int, node)
-        }
-        Builtin::HostBasic => {
-            let node = Node::Basic {
-                ty: any,
-                operand: first,
-            };
-            c.value(place, any, node)
-        }
-        Builtin::HostExit => done(c, place, StmtNode::Exit(first)),
-        Builtin::HostFatal => done(c, place, StmtNode::Fatal(first)),
-        Builtin::HostYield => done(c, place, StmtNode::Yield),
-        Builtin::HostGateTake => done(c, place, StmtNode::GateTake(first)),
-        Builtin::HostGateAwait => done(c, place, StmtNode::GateAwait(first)),
-        _ => written(c, place, first),
-    }
-}
-
-// What a package writes is printed without a newline.
-fn written(c: &mut Checker, place: Place, x: NodeId) -> Result<Operand, NoMemory> {
-    let operands = c.nodes.list(&[x.0])?;
-    done(
-        c,
-        place,
-        StmtNode::Print {
-            operands,
-            ends_line: false,
-        },
-    )
 }

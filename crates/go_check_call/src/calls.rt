@@ -2,7 +2,7 @@
 
 use gj_base::{NoMemory, Place};
 use go_check_operand::assignment::{assignment, single_value};
-use go_check_state::node::{Callee, Node, NodeId, PlaceNode, Span, VarRef};
+use go_check_state::node::{Callee, Node, NodeId, PlaceNode, Span};
 use go_check_state::{Checker, EMPTY, FaultCode, Mode, NONE, Operand, Shape};
 use go_type::types::TypeId;
 
@@ -64,17 +64,61 @@ pub fn within(c: &mut Checker, results: Option<Results>, x: Operand) -> Result<O
     }
 }
 
-// A function value in a fresh variable, so that it is evaluated before what follows.
-fn held_callee(c: &mut Checker, f: Operand) -> Result<(Operand, Option<Results>), NoMemory> {
-    if let Node::Closure { .. } = c.nodes.get(f.node) {
-        return Ok((f, None));
-    }
-    let var = c.fresh(EMPTY, f.place, f.ty)?;
+// A value in a fresh variable, so that it is evaluated before what follows, and a read of that.
+fn held(
+    c: &mut Checker,
+    place: Place,
+    ty: TypeId,
+    value: NodeId,
+) -> Result<(NodeId, Option<Results>), NoMemory> {
+    let var = c.fresh(EMPTY, place, ty)?;
     let vars = c.nodes.list(&[var.0])?;
-    let value = f.node;
-    let place = c.nodes.place(PlaceNode::Local(var))?;
-    let read = c.value(f.place, f.ty, Node::Read { ty: f.ty, place })?;
+    let at = c.nodes.place(PlaceNode::Local(var))?;
+    let read = c.nodes.expr(place, Node::Read { ty, place: at })?;
     Ok((read, Some(Results { vars, value })))
+}
+
+// What is called, with its function value or its receiver in a fresh variable.
+fn held_callee(c: &mut Checker, f: Operand) -> Result<(Operand, Option<Results>), NoMemory> {
+    let (node, results) = match c.nodes.get(f.node) {
+        Node::Closure { .. } => return Ok((f, None)),
+        Node::Bind {
+            ty,
+            of,
+            name,
+            package,
+            receiver,
+        } => {
+            let (receiver, results) = held(c, f.place, of, receiver)?;
+            let node = Node::Bind {
+                ty,
+                of,
+                name,
+                package,
+                receiver,
+            };
+            (c.nodes.expr(f.place, node)?, results)
+        }
+        Node::BindDynamic {
+            ty,
+            of,
+            name,
+            package,
+            receiver,
+        } => {
+            let (receiver, results) = held(c, f.place, of, receiver)?;
+            let node = Node::BindDynamic {
+                ty,
+                of,
+                name,
+                package,
+                receiver,
+            };
+            (c.nodes.expr(f.place, node)?, results)
+        }
+        _ => held(c, f.place, f.ty, f.node)?,
+    };
+    Ok((Operand { node, ..f }, results))
 }
 
 // What is called, by the node of the operand; a bound method's receiver is the first operand.
@@ -122,49 +166,72 @@ pub fn call(
     if f.is_unknown() {
         return c.unknown(place);
     }
-    let Shape::Func(params, results, variadic) = c.shape(f.ty) else {
+    let Shape::Func(params, _, variadic) = c.shape(f.ty) else {
         return c.fail(FaultCode::NotAFunction, f.place);
     };
     let (args, several) = spread(c, args)?;
-    let is_spread = several.is_some();
-    if !fits_count(params, variadic, args.len(), dots && !is_spread)
-        || dots && (is_spread || !variadic)
-    {
+    let gathers = variadic && !dots;
+    if dots && (several.is_some() || !variadic) || !fits_count(params, gathers, args.len()) {
         return c.fail(FaultCode::WrongArgumentCount, place);
     }
-    let (f, function) = if is_spread {
-        held_callee(c, f)?
-    } else {
-        (f, None)
-    };
-    let mut operands: Vec<u32> = Vec::new(c.alloc);
-    let callee = callee(c, f, &mut operands)?;
-    let Some(()) = arguments(
-        c,
-        place,
-        f.ty,
-        params,
-        variadic && !dots,
-        &args,
-        &mut operands,
-    )?
-    else {
-        return c.unknown(place);
-    };
-    let operands = c.nodes.list(operands.as_slice())?;
-    let node = Node::Call {
-        sig: f.ty,
-        callee,
-        operands,
-    };
-    let x = result(c, place, f.ty, results, node)?;
-    let x = within(c, several, x)?;
-    within(c, function, x)
+    match several {
+        None => call_with(c, place, f, gathers, &args),
+        Some(results) if !variadic && are_params(c, f.ty, &args) => {
+            call_of_results(c, place, f, results)
+        }
+        Some(_) => {
+            let (f, function) = held_callee(c, f)?;
+            let x = call_with(c, place, f, gathers, &args)?;
+            let x = within(c, several, x)?;
+            within(c, function, x)
+        }
+    }
 }
 
-fn fits_count(params: usize, variadic: bool, args: usize, dots: bool) -> bool {
-    if variadic && !dots {
-        args + 1 >= params
+// The call of a function whose parameters take the values.
+fn call_with(
+    c: &mut Checker,
+    place: Place,
+    f: Operand,
+    gathers: bool,
+    args: &Vec<Operand>,
+) -> Result<Operand, NoMemory> {
+    let mut operands: Vec<u32> = Vec::new(c.alloc);
+    let callee = callee(c, f, &mut operands)?;
+    if !arguments(c, place, f.ty, gathers, args, &mut operands)? {
+        return c.unknown(place);
+    }
+    result(c, place, f.ty, callee, &operands)
+}
+
+// `f(g())` where each result of `g` has the type of a parameter.
+fn call_of_results(
+    c: &mut Checker,
+    place: Place,
+    f: Operand,
+    results: Results,
+) -> Result<Operand, NoMemory> {
+    let mut operands: Vec<u32> = Vec::new(c.alloc);
+    let callee = callee(c, f, &mut operands)?;
+    operands.push(results.value.0)?;
+    result(c, place, f.ty, callee, &operands)
+}
+
+// Whether each value has the type of its parameter.
+fn are_params(c: &Checker, sig: TypeId, args: &Vec<Operand>) -> bool {
+    for number in 0..args.len() {
+        if let Some(x) = args.get(number).copied() {
+            if x.ty.0 != c.param(sig, number).0 {
+                return false;
+            }
+        }
+    }
+    true
+}
+
+fn fits_count(params: usize, gathers: bool, args: usize) -> bool {
+    if gathers {
+        args >= params.saturating_sub(1)
     } else {
         args == params
     }
@@ -175,9 +242,18 @@ fn result(
     c: &mut Checker,
     place: Place,
     sig: TypeId,
-    results: usize,
-    node: Node,
+    callee: Callee,
+    operands: &Vec<u32>,
 ) -> Result<Operand, NoMemory> {
+    let operands = c.nodes.list(operands.as_slice())?;
+    let node = Node::Call {
+        sig,
+        callee,
+        operands,
+    };
+    let Shape::Func(_, results, _) = c.shape(sig) else {
+        return c.unknown(place);
+    };
     if results == 0 {
         return c.operand(Mode::NoValue, place, NONE, node);
     }
@@ -193,46 +269,60 @@ fn result(
     c.value(place, t, node)
 }
 
-// Each argument as a value of its parameter's type; the last parameter gathers the rest.
+// Each argument as a value of its parameter's type; the last parameter may gather the rest. Answers whether
+// all are typed.
 fn arguments(
     c: &mut Checker,
     place: Place,
     sig: TypeId,
-    params: usize,
     gathers: bool,
     args: &Vec<Operand>,
     operands: &mut Vec<u32>,
-) -> Result<Option<()>, NoMemory> {
-    let mut known = true;
-    let mut rest: Vec<u32> = Vec::new(c.alloc);
-    let slice = if params > 0 {
-        c.param(sig, params - 1)
-    } else {
-        NONE
+) -> Result<bool, NoMemory> {
+    let Shape::Func(params, _, _) = c.shape(sig) else {
+        return Ok(false);
     };
-    for number in 0..args.len() {
-        let Some(x) = args.get(number).copied() else {
-            return Ok(None);
-        };
-        let in_rest = gathers && number + 1 >= params;
-        let t = if in_rest {
-            element_of(c, slice)
-        } else {
-            c.param(sig, number)
-        };
-        let x = assignment(c, x, t)?;
-        known &= !x.is_unknown();
-        if in_rest {
-            rest.push((number + 1 - params) as u32)?;
-            rest.push(x.node.0)?;
-        } else {
+    let last = params.saturating_sub(1);
+    let own = if gathers { last } else { args.len() };
+    let mut known = true;
+    for number in 0..own {
+        if let Some(x) = args.get(number).copied() {
+            let t = c.param(sig, number);
+            let x = assignment(c, x, t)?;
+            known &= !x.is_unknown();
             operands.push(x.node.0)?;
         }
     }
     if gathers {
+        let slice = c.param(sig, last);
+        let (rest, all) = elements(c, element_of(c, slice), args, last)?;
+        known &= all;
         operands.push(gathered(c, place, slice, &rest)?.0)?;
     }
-    if known { Ok(Some(())) } else { Ok(None) }
+    Ok(known)
+}
+
+/// The arguments from one on as elements of a slice: an index and an expression of each, and whether all are
+/// typed.
+pub fn elements(
+    c: &mut Checker,
+    of: TypeId,
+    args: &Vec<Operand>,
+    first: usize,
+) -> Result<(Vec<u32>, bool), NoMemory> {
+    let mut list: Vec<u32> = Vec::new(c.alloc);
+    let mut known = true;
+    let mut index: u32 = 0;
+    for number in first..args.len() {
+        if let Some(x) = args.get(number).copied() {
+            let x = assignment(c, x, of)?;
+            known &= !x.is_unknown();
+            list.push(index)?;
+            list.push(x.node.0)?;
+            index = index.saturating_add(1);
+        }
+    }
+    Ok((list, known))
 }
 
 fn element_of(c: &Checker, slice: TypeId) -> TypeId {
@@ -261,9 +351,4 @@ fn gathered(
             elements,
         },
     )
-}
-
-/// A variable that nothing names.
-pub fn nameless(c: &mut Checker, place: Place, t: TypeId) -> Result<VarRef, NoMemory> {
-    c.fresh(EMPTY, place, t)
 }

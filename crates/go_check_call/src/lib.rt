@@ -7,3 +7,4 @@
 pub mod builtins;
 pub mod calls;
 pub mod conversion_row;
+pub mod host;

@@ -121,13 +121,13 @@ pub fn operand(c: &mut Checker, e: &Expr, around: Around) -> Result<Operand, NoM
                     (wanted_type(c, t, true)?, false)
                 }
             };
-            let mut b = begin(c, place, t, counts)?;
+            let mut b = begin(c, place, t, counts);
             literal(c, &mut b, elems)?;
             end(c, &b)?
         }
         ExprForm::Literal(None, elems) => {
             let (t, points) = elided_type(c, around.elided);
-            let mut b = begin(c, place, t, false)?;
+            let mut b = begin(c, place, t, false);
             literal(c, &mut b, elems)?;
             let x = end(c, &b)?;
             if points {

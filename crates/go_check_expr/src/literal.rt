@@ -8,24 +8,31 @@ use gj_base::{NoMemory, Place, Text};
 use go_check_operand::assignment::assignment;
 use go_check_state::node::{ConstId, Node};
 use go_check_state::{BLANK, Checker, FaultCode, NONE, Operand, Shape};
+use go_check_type::type_row::array_type;
+use go_const::Const;
 use go_syntax::tree::{Elem, Expr, ExprForm};
 use go_type::types::TypeId;
+use std::collections::{BTreeSet, HashSet};
+
+/// The greatest length of an array, one more than the greatest index.
+const MOST: u32 = 2147483647;
 
 /// What a literal is of.
 #[derive(Clone, Copy, Debug, PartialEq, Eq)]
 enum Kind {
     Struct,
-    /// An array or a slice; whether its length is counted.
+    /// An array or a slice.
     List,
+    /// An array whose length is counted.
     Counted,
     Map,
     /// A type without literals, or none.
     Nothing,
 }
 
-/// A literal so far.
-#[derive(Drop)]
-pub struct Building {
+/// What is known of a literal from its type alone.
+#[derive(Clone, Copy, Debug)]
+struct Head {
     place: Place,
     ty: TypeId,
     kind: Kind,
@@ -33,41 +40,59 @@ pub struct Building {
     of: TypeId,
     /// How many fields or elements there may be.
     limit: u32,
+}
+
+/// A literal so far.
+#[derive(Drop)]
+pub struct Building {
+    head: Head,
     /// Whether the first element has a key.
     keyed: Option<bool>,
+    /// Where an element without a key goes, and one past the last element.
     next: u32,
     count: u32,
+    /// How many elements there were, and how many of the first ones had no key.
     seen: u32,
+    first: u32,
     known: bool,
+    /// The index or the key, and the value, of each element.
     list: Vec<u32>,
-    keys: Vec<ConstId>,
+    /// The fields or indexes that have a value, but for the first elements without keys.
+    taken: BTreeSet<u32>,
+    numbers: BTreeSet<i128>,
+    texts: HashSet<Text>,
 }
 
 /// Begins a literal of a type, or of an array of it whose length is counted.
-pub fn begin(c: &mut Checker, place: Place, t: TypeId, counts: bool) -> Result<Building, NoMemory> {
+pub fn begin(c: &Checker, place: Place, t: TypeId, counts: bool) -> Building {
     let (kind, key, of, limit) = match c.shape(t) {
-        _ if counts => (Kind::Counted, NONE, t, 2147483647),
+        _ if counts => (Kind::Counted, NONE, t, MOST),
         Shape::Struct(count) if count <= 1000 => (Kind::Struct, NONE, NONE, count as u32),
         Shape::Array(n, of) => (Kind::List, NONE, of, n),
-        Shape::Slice(of) => (Kind::List, NONE, of, 2147483647),
+        Shape::Slice(of) => (Kind::List, NONE, of, MOST),
         Shape::Map(key, of) => (Kind::Map, key, of, 0),
         _ => (Kind::Nothing, NONE, NONE, 0),
     };
-    Ok(Building {
-        place,
-        ty: t,
-        kind,
-        key,
-        of,
-        limit,
+    Building {
+        head: Head {
+            place,
+            ty: t,
+            kind,
+            key,
+            of,
+            limit,
+        },
         keyed: None,
         next: 0,
         count: 0,
         seen: 0,
+        first: 0,
         known: true,
         list: Vec::new(c.alloc),
-        keys: Vec::new(c.alloc),
-    })
+        taken: BTreeSet::new(c.alloc),
+        numbers: BTreeSet::new(c.alloc),
+        texts: HashSet::new(c.alloc),
+    }
 }
 
 /// The type of a literal that leaves its own out, and whether it stands for a pointer to one.
@@ -84,16 +109,15 @@ pub fn literal(c: &mut Checker, b: &mut Building, elems: &Vec<Elem>) -> Result<(
     for elem in elems {
         one_form(c, b, elem)?;
         let at = match &elem.key {
-            Some(key) if is_field_name(b, key) => field_key(c, b, key)?,
+            Some(key) if is_field_name(b.head, key) => field_key(c, b, key)?,
             Some(key) => {
-                let x = operand(c, key, around(b.key))?;
+                let x = operand(c, key, around(b.head.key))?;
                 element_key(c, b, key.place, x)?
             }
             None => next_place(c, b, elem.value.place)?,
         };
-        let wanted = wanted_at(c, b, at);
-        let hint = if b.kind == Kind::Struct { NONE } else { wanted };
-        let x = operand(c, &elem.value, around(hint))?;
+        let wanted = wanted_at(c, b.head, at);
+        let x = operand(c, &elem.value, value_around(b.head, wanted))?;
         add(c, b, at, wanted, x, is_bare(&elem.value))?;
     }
     Ok(())
@@ -101,6 +125,14 @@ pub fn literal(c: &mut Checker, b: &mut Building, elems: &Vec<Elem>) -> Result<(
 
 fn around(elided: TypeId) -> Around {
     Around { elided, ..NOTHING }
+}
+
+// A field's literal has its type.
+fn value_around(head: Head, wanted: TypeId) -> Around {
+    match head.kind {
+        Kind::Struct => NOTHING,
+        _ => around(wanted),
+    }
 }
 
 // Whether a literal leaves its type out.
@@ -114,7 +146,7 @@ fn is_bare(e: &Expr) -> bool {
 // F69 at the first element whose form differs from the first one's.
 fn one_form(c: &mut Checker, b: &mut Building, elem: &Elem) -> Result<(), NoMemory> {
     let has = elem.key.is_some();
-    match (b.kind, b.keyed) {
+    match (b.head.kind, b.keyed) {
         (Kind::Struct, Some(keyed)) | (Kind::Map, Some(keyed)) if keyed != has => {
             if b.known {
                 c.fault(FaultCode::BadLiteral, elem_place(elem))?;
@@ -135,45 +167,51 @@ fn elem_place(elem: &Elem) -> Place {
 }
 
 // Whether a key is a name that is no expression: of a field, or of what is no literal at all.
-fn is_field_name(b: &Building, key: &Expr) -> bool {
+fn is_field_name(head: Head, key: &Expr) -> bool {
     match &*key.form {
-        ExprForm::Name(_) => b.kind == Kind::Struct || b.kind == Kind::Nothing,
-        _ => b.kind == Kind::Struct,
+        ExprForm::Name(_) => head.kind == Kind::Struct || head.kind == Kind::Nothing,
+        _ => head.kind == Kind::Struct,
     }
 }
 
-// Whether an index stands in the list of indexes and nodes.
-fn has_index(b: &Building, at: u32) -> bool {
-    b.list.iter().step_by(2).any(|x| *x == at)
+// Whether a field or an index has a value.
+fn is_taken(b: &Building, at: u32) -> bool {
+    at < b.first || b.taken.contains(&at)
 }
 
 // The field that a key names: F69 where it is unknown, unexported or repeated.
 fn field_key(c: &mut Checker, b: &Building, key: &Expr) -> Result<Option<u32>, NoMemory> {
-    if b.kind == Kind::Nothing {
+    if b.head.kind == Kind::Nothing {
         return Ok(None);
     }
-    if let ExprForm::Name(text) = &*key.form {
-        for number in 0..b.limit {
-            if is_field(c, b.ty, number, text)? && !has_index(b, number) {
+    let found = match &*key.form {
+        ExprForm::Name(text) => field_number(c, b.head, text)?,
+        _ => None,
+    };
+    match found {
+        Some(at) if !is_taken(b, at) => Ok(Some(at)),
+        _ => {
+            c.fault(FaultCode::BadLiteral, key.place)?;
+            Ok(None)
+        }
+    }
+}
+
+// The field with a name here.
+fn field_number(c: &mut Checker, head: Head, text: &Text) -> Result<Option<u32>, NoMemory> {
+    let id = c.names.intern(text.as_bytes())?;
+    if id == BLANK {
+        return Ok(None);
+    }
+    let package = c.names.text(c.package_of(id));
+    for number in 0..head.limit {
+        if let Some(row) = c.field(head.ty, number as usize) {
+            if row.name == *text && row.package == *package {
                 return Ok(Some(number));
             }
         }
     }
-    c.fault(FaultCode::BadLiteral, key.place)?;
     Ok(None)
-}
-
-// Whether a field has the name here.
-fn is_field(c: &mut Checker, t: TypeId, number: u32, text: &Text) -> Result<bool, NoMemory> {
-    let id = c.names.intern(text.as_bytes())?;
-    if id == BLANK {
-        return Ok(false);
-    }
-    let package = c.names.text(c.package_of(id));
-    Ok(match c.field(t, number as usize) {
-        Some(row) => row.name == *text && row.package == *package,
-        None => false,
-    })
 }
 
 // The index or the key of an element: F69 where it is no constant index, or was there.
@@ -183,7 +221,7 @@ fn element_key(
     place: Place,
     x: Operand,
 ) -> Result<Option<u32>, NoMemory> {
-    match b.kind {
+    match b.head.kind {
         Kind::Map => map_key(c, b, place, x),
         Kind::List | Kind::Counted => index_key(c, b, place, x),
         _ => Ok(None),
@@ -200,11 +238,11 @@ fn index_key(
         return Ok(None);
     }
     let at = match x.constant() {
-        Some(id) if c.is_integer(x.ty) => c.small_number(id, b.limit),
+        Some(id) if c.is_integer(x.ty) => c.small_number(id, b.head.limit),
         _ => None,
     };
     match at {
-        Some(at) if at < b.limit && !has_index(b, at) => Ok(Some(at)),
+        Some(at) if at < b.head.limit && !is_taken(b, at) => Ok(Some(at)),
         _ => {
             c.fault(FaultCode::BadLiteral, place)?;
             Ok(None)
@@ -219,37 +257,47 @@ fn map_key(
     place: Place,
     x: Operand,
 ) -> Result<Option<u32>, NoMemory> {
-    let x = assignment(c, x, b.key)?;
+    let x = assignment(c, x, b.head.key)?;
     if x.is_unknown() {
         return Ok(None);
     }
     if let Node::Const { value, .. } = c.nodes.get(x.node) {
-        if b.keys.iter().any(|k| same_constant(c, *k, value)) {
+        if !is_new_key(c, b, value)? {
             c.fault(FaultCode::BadLiteral, place)?;
             return Ok(None);
         }
-        b.keys.push(value)?;
     }
     Ok(Some(x.node.0))
 }
 
+// Notes a constant key. Answers whether it wasn't there.
+fn is_new_key(c: &Checker, b: &mut Building, id: ConstId) -> Result<bool, NoMemory> {
+    match c.constant(id) {
+        Some(Const::Int(x)) | Some(Const::Rune(x)) => Ok(b.numbers.insert(*x)?),
+        Some(Const::Bool(x)) => Ok(b.numbers.insert(if *x { 1 } else { 0 })?),
+        Some(Const::Text(text)) => {
+            if b.texts.contains(text) {
+                return Ok(false);
+            }
+            b.texts.insert(text.clone()?)?;
+            Ok(true)
+        }
+        None => Ok(true),
+    }
+}
+
 // Where an element without a key goes: F69 past the end, or where one was, or at a hidden field.
 fn next_place(c: &mut Checker, b: &Building, place: Place) -> Result<Option<u32>, NoMemory> {
-    let fits = match b.kind {
-        Kind::Struct => b.seen < b.limit && is_visible(c, b.ty, b.seen),
-        Kind::List | Kind::Counted => {
-            b.next < b.limit && (b.count == b.seen || !has_index(b, b.next))
-        }
+    let at = match b.head.kind {
+        Kind::Struct => b.seen,
+        Kind::List | Kind::Counted => b.next,
         _ => return Ok(None),
     };
-    if fits {
-        return Ok(Some(if b.kind == Kind::Struct {
-            b.seen
-        } else {
-            b.next
-        }));
+    let fits = at < b.head.limit && !is_taken(b, at);
+    if fits && (b.head.kind != Kind::Struct || is_visible(c, b.head.ty, at)) {
+        return Ok(Some(at));
     }
-    if b.kind != Kind::Struct || b.seen <= b.limit {
+    if b.head.kind != Kind::Struct || b.seen <= b.head.limit {
         c.fault(FaultCode::BadLiteral, place)?;
     }
     Ok(None)
@@ -270,14 +318,14 @@ fn is_visible(c: &Checker, t: TypeId, number: u32) -> bool {
 }
 
 // The type that the value at a place is to have.
-fn wanted_at(c: &Checker, b: &Building, at: Option<u32>) -> TypeId {
-    match (b.kind, at) {
-        (Kind::Struct, Some(at)) => c.field_type(b.ty, at as usize),
-        _ => b.of,
+fn wanted_at(c: &Checker, head: Head, at: Option<u32>) -> TypeId {
+    match (head.kind, at) {
+        (Kind::Struct, Some(at)) => c.field_type(head.ty, at as usize),
+        _ => head.of,
     }
 }
 
-// One more element: F69 at a field's literal that leaves its type out.
+// One more element: F69 at a field's literal that leaves its type out, F71 at a gate field's value.
 fn add(
     c: &mut Checker,
     b: &mut Building,
@@ -286,20 +334,41 @@ fn add(
     x: Operand,
     bare: bool,
 ) -> Result<(), NoMemory> {
-    if bare && b.kind == Kind::Struct {
-        c.fault(FaultCode::BadLiteral, x.place)?;
+    if b.head.kind == Kind::Struct {
+        if bare {
+            c.fault(FaultCode::BadLiteral, x.place)?;
+        }
+        if let Some(number) = at {
+            if c.is_gate(b.head.ty, number as usize) {
+                c.fault(FaultCode::NotInProfile, x.place)?;
+            }
+        }
     }
     let x = assignment(c, x, wanted)?;
-    if b.seen < u32::MAX {
-        b.seen += 1;
-    }
     b.known = b.known && at.is_some() && !x.is_unknown();
     let at = at.unwrap_or(u32::MAX);
     b.list.push(at)?;
     b.list.push(x.node.0)?;
-    if at < u32::MAX && b.kind != Kind::Map {
-        b.next = at + 1;
-        b.count = if b.next > b.count { b.next } else { b.count };
+    if b.head.kind != Kind::Map {
+        take(b, at)?;
+    }
+    b.seen = b.seen.saturating_add(1);
+    Ok(())
+}
+
+// Notes that a field or an index has a value.
+fn take(b: &mut Building, at: u32) -> Result<(), NoMemory> {
+    if at == u32::MAX {
+        return Ok(());
+    }
+    if at == b.first && b.seen == b.first {
+        b.first = at + 1;
+    } else {
+        b.taken.insert(at)?;
+    }
+    b.next = at + 1;
+    if b.next > b.count {
+        b.count = b.next;
     }
     Ok(())
 }
@@ -307,21 +376,22 @@ fn add(
 /// The literal as an operand: F69 of a type without literals, with too few values, or of a map without
 /// keys.
 pub fn end(c: &mut Checker, b: &Building) -> Result<Operand, NoMemory> {
-    let few = b.kind == Kind::Struct && b.keyed == Some(false) && b.seen < b.limit;
-    let bare = b.kind == Kind::Map && b.keyed == Some(false);
-    let none = b.kind == Kind::Nothing && is_known(c, b.ty);
+    let head = b.head;
+    let few = head.kind == Kind::Struct && b.keyed == Some(false) && b.seen < head.limit;
+    let bare = head.kind == Kind::Map && b.keyed == Some(false);
+    let none = head.kind == Kind::Nothing && is_known(c, head.ty);
     if few || bare || none {
-        return c.fail(FaultCode::BadLiteral, b.place);
+        return c.fail(FaultCode::BadLiteral, head.place);
     }
-    let ty = match b.kind {
-        Kind::Counted => go_check_type::type_row::array_type(c, b.place, Some(b.count), b.of)?,
-        _ => b.ty,
+    let ty = match head.kind {
+        Kind::Counted => array_type(c, head.place, Some(b.count), head.of)?,
+        _ => head.ty,
     };
-    if !b.known || b.kind == Kind::Nothing || !c.has(ty) {
-        return c.unknown(b.place);
+    if !b.known || head.kind == Kind::Nothing || !c.has(ty) {
+        return c.unknown(head.place);
     }
     let list = c.nodes.list(b.list.as_slice())?;
-    let node = match (b.kind, c.shape(ty)) {
+    let node = match (head.kind, c.shape(ty)) {
         (Kind::Map, _) => Node::BuildMap { ty, pairs: list },
         (_, Shape::Array(count, _)) => Node::Build {
             ty,
@@ -334,7 +404,7 @@ pub fn end(c: &mut Checker, b: &Building) -> Result<Operand, NoMemory> {
             elements: list,
         },
     };
-    c.value(b.place, ty, node)
+    c.value(head.place, ty, node)
 }
 
 fn is_known(c: &Checker, t: TypeId) -> bool {

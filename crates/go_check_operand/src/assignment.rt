@@ -6,11 +6,15 @@ use go_check_state::node::Node;
 use go_check_state::{Checker, FaultCode, Mode, Operand, Shape};
 use go_type::types::TypeId;
 
-/// An operand that is to be one value: F52 at a type, a package, a built-in, or a call without one result.
+/// An operand that is to be one value: F52 at a type, a package, a built-in, or a call without one result,
+/// F71 at a gate.
 pub fn single_value(c: &mut Checker, x: Operand) -> Result<Operand, NoMemory> {
     match x.mode {
         Mode::NoValue | Mode::Builtin(_) | Mode::TypeName | Mode::Package(_) => {
             c.fail(FaultCode::NotAValue, x.place)
+        }
+        Mode::Gate(_) | Mode::GatePointer | Mode::GateCell => {
+            c.fail(FaultCode::NotInProfile, x.place)
         }
         Mode::Value if is_tuple(c, x) => c.fail(FaultCode::NotAValue, x.place),
         _ => Ok(x),

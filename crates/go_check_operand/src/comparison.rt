@@ -56,14 +56,11 @@ fn joined(c: &mut Checker, x: Operand, y: Operand) -> Result<(Operand, Operand),
         let y = convert_untyped(c, y, t, FaultCode::OperandMismatch)?;
         return Ok((x, y));
     }
-    if c.is_interface(x.ty) {
+    if c.assignable(y.ty, x.ty) {
         let y = value_of(c, y, x.ty)?;
         return Ok((x, y));
     }
-    if c.is_interface(y.ty) {
-        let x = value_of(c, x, y.ty)?;
-        return Ok((x, y));
-    }
+    let x = value_of(c, x, y.ty)?;
     Ok((x, y))
 }
 

@@ -144,7 +144,7 @@ fn add(
     let Shape::Named(id) = c.level(named) else {
         return Ok(());
     };
-    c.methods.push(MethodEntry {
+    c.add_method(MethodEntry {
         named: id.0,
         name,
         pointer,

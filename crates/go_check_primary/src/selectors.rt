@@ -176,6 +176,9 @@ fn field(c: &mut Checker, place: Place, x: Operand, steps: &[Step]) -> Result<Op
     if !c.has(w.ty) {
         return c.unknown(place);
     }
+    if let (At::Storage(at), true) = (w.at, ends_at_gate(c, x, steps)) {
+        return c.plain(Mode::Gate(at), place, w.ty);
+    }
     if let (At::Storage(at), true, None) = (w.at, w.addressable, w.held) {
         let node = Node::Read {
             ty: w.ty,
@@ -191,6 +194,14 @@ fn field(c: &mut Checker, place: Place, x: Operand, steps: &[Step]) -> Result<Op
         node,
         place,
     })
+}
+
+// Whether the last step goes to a gate field.
+fn ends_at_gate(c: &Checker, x: Operand, steps: &[Step]) -> bool {
+    match steps.split_last() {
+        Some((Step::Field(number), before)) => c.is_gate(c.walk(x.ty, before), *number as usize),
+        _ => false,
+    }
 }
 
 fn method(
@@ -267,6 +278,7 @@ fn dynamic(
         place,
         Node::BindDynamic {
             ty: sig,
+            of: t,
             name,
             package,
             receiver,
@@ -304,6 +316,15 @@ pub fn indirection(c: &mut Checker, place: Place, x: Operand) -> Result<Operand,
 
 /// `&x` of an operand that is no literal: F67 where it isn't addressable.
 pub fn address_of(c: &mut Checker, place: Place, x: Operand) -> Result<Operand, NoMemory> {
+    if let Mode::Gate(at) = x.mode {
+        let ty = c.pointer_to(x.ty)?;
+        return c.operand(
+            Mode::GatePointer,
+            place,
+            ty,
+            Node::Address { ty, place: at },
+        );
+    }
     let x = single_value(c, x)?;
     match x.mode {
         Mode::Unknown => c.unknown(place),

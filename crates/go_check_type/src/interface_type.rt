@@ -23,15 +23,16 @@ pub fn interface_rows(c: &Checker) -> InterfaceRows {
     }
 }
 
-// The place of a method among methods in order.
+// Where a method goes among methods in order.
 fn place_among(specs: &Vec<MethodSpec>, name: &Text, package: &Text) -> usize {
-    let mut at = 0;
-    for spec in specs.iter() {
-        if spec.name < *name || spec.name == *name && spec.package < *package {
-            at += 1;
+    for at in 0..specs.len() {
+        if let Some(spec) = specs.get(at) {
+            if !(spec.name < *name || spec.name == *name && spec.package < *package) {
+                return at;
+            }
         }
     }
-    at
+    specs.len()
 }
 
 fn is_there(specs: &Vec<MethodSpec>, name: &Text, package: &Text) -> bool {
