@@ -255,13 +255,24 @@ impl Pool {
         }
     }
 
+    // The statement of a block that has just one.
+    fn only_stmt(&self, block: Block) -> Option<Stmt> {
+        if block.many != 1 {
+            return None;
+        }
+        match self.stmts.get(block.from as usize) {
+            Some(s) => Some(*s),
+            None => None,
+        }
+    }
+
     #[cycle(stmt)]
     fn tail(&self, other: Else, depth: u32) -> Tail {
         let Else::Block(block) = other else {
             return Ok(JsElse::Nothing);
         };
-        if let [Stmt::If(test, body, rest)] = block.of(self.stmts.as_slice()) {
-            return self.else_if(*test, *body, *rest, depth);
+        if let Some(Stmt::If(test, body, rest)) = self.only_stmt(block) {
+            return self.else_if(test, body, rest, depth);
         }
         let block = self.stmt_trees(block, depth)?;
         Ok(JsElse::Block(block))
