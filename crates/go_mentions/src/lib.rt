@@ -2,6 +2,7 @@
 //! function are boxed.
 //!
 //! The Go Programming Language Specification (as of Go 1.17), "Package initialization", "Calls",
-//! "Method values". Definitions alone: `specs/Mentions.antt` and `specs/Boxed.antt`.
+//! "Method values": `specs/Mentions.antt`. Boxes are own: `specs/Boxed.antt`.
 #![tactic(auto)]
 
+pub mod laws;
