@@ -1,0 +1,39 @@
+//! The expression of an operation.
+
+use crate::convert::convert;
+use crate::kinds::is_wide;
+use crate::{small, wide};
+use gj_base::{Kind, Op};
+use js_pool::{ExprId, Pool};
+
+/// An operator on operands of a kind, one or two of them, each a name or a constant: an operand may
+/// stand more than once in what is made. The count of a shift has 32 bits and no sign. What is no
+/// operator on integers gives the first operand.
+pub fn lower(p: &mut Pool, op: Op, kind: Kind, operands: &[ExprId]) -> ExprId {
+    match operands {
+        [a] => unary(p, op, kind, *a),
+        [a, b, ..] => binary(p, op, kind, *a, *b),
+        [] => p.null(),
+    }
+}
+
+/// An operator on one operand.
+pub fn unary(p: &mut Pool, op: Op, kind: Kind, x: ExprId) -> ExprId {
+    match op {
+        Op::To(to) => convert(p, kind, to, x),
+        _ => {
+            if is_wide(kind) {
+                return wide::unary(p, op, x);
+            }
+            small::unary(p, op, kind, x)
+        }
+    }
+}
+
+/// An operator on two operands.
+pub fn binary(p: &mut Pool, op: Op, kind: Kind, x: ExprId, y: ExprId) -> ExprId {
+    if is_wide(kind) {
+        return wide::binary(p, op, kind, x, y);
+    }
+    small::binary(p, op, kind, x, y)
+}

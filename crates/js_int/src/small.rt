@@ -1,0 +1,221 @@
+//! Numbers of up to 32 bits.
+
+use crate::kinds::is_signed;
+use gj_base::{Kind, Op};
+use js_pool::{ExprId, Node, Pool};
+use js_tree::BinaryOp;
+
+/// A number modulo the kind's width.
+pub fn wrapped(p: &mut Pool, kind: Kind, z: ExprId) -> ExprId {
+    match kind {
+        Kind::I8 => centred(p, z, 128, 255),
+        Kind::I16 => centred(p, z, 32768, 65535),
+        Kind::U8 => masked(p, z, 255),
+        Kind::U16 => masked(p, z, 65535),
+        Kind::U32 => {
+            let none = p.num(0);
+            p.shift_right_unsigned(z, none)
+        }
+        _ => {
+            let none = p.num(0);
+            p.bit_or(z, none)
+        }
+    }
+}
+
+fn masked(p: &mut Pool, z: ExprId, mask: u64) -> ExprId {
+    let mask = p.num(mask);
+    p.bit_and(z, mask)
+}
+
+// `((z + middle) & mask) - middle`
+fn centred(p: &mut Pool, z: ExprId, middle: u64, mask: u64) -> ExprId {
+    let m = p.num(middle);
+    let up = p.plus(z, m);
+    let low = masked(p, up, mask);
+    p.sub(low, m)
+}
+
+// A product of 32 bits, modulo the width: each product of digits is below `2 ^ 32`.
+fn product(p: &mut Pool, x: ExprId, y: ExprId) -> ExprId {
+    let a = masked(p, x, 65535);
+    let b = masked(p, y, 65535);
+    let width = p.num(16);
+    let c = p.shift_right_unsigned(x, width);
+    let d = p.shift_right_unsigned(y, width);
+    let low = p.mul(a, b);
+    let one = p.mul(c, b);
+    let other = p.mul(a, d);
+    let high = p.plus(one, other);
+    let high = p.shift_left(high, width);
+    p.plus(low, high)
+}
+
+fn times(p: &mut Pool, kind: Kind, x: ExprId, y: ExprId) -> ExprId {
+    let z = match kind {
+        Kind::I32 | Kind::U32 => product(p, x, y),
+        _ => p.mul(x, y),
+    };
+    wrapped(p, kind, z)
+}
+
+// `(x - x % y) / y`, which wraps at the least number by -1.
+fn quotient(p: &mut Pool, kind: Kind, x: ExprId, y: ExprId) -> ExprId {
+    let rest = p.rem(x, y);
+    let whole = p.sub(x, rest);
+    let z = p.div(whole, y);
+    if is_signed(kind) {
+        return wrapped(p, kind, z);
+    }
+    z
+}
+
+// Bits of two numbers: only those of `U32` can lose their sign.
+fn bits(p: &mut Pool, kind: Kind, z: ExprId) -> ExprId {
+    match kind {
+        Kind::U32 => wrapped(p, kind, z),
+        _ => z,
+    }
+}
+
+fn bits_of(p: &mut Pool, op: Op, kind: Kind, x: ExprId, y: ExprId) -> ExprId {
+    let z = match op {
+        Op::And => p.bit_and(x, y),
+        Op::Or => p.bit_or(x, y),
+        Op::Xor => p.bit_xor(x, y),
+        _ => {
+            let y = p.complement(y);
+            p.bit_and(x, y)
+        }
+    };
+    bits(p, kind, z)
+}
+
+// ---- shifts
+
+// The number that a constant operand is.
+fn constant(p: &Pool, e: ExprId) -> Option<u64> {
+    match p.node(e) {
+        Node::Number(n) => Some(n),
+        _ => None,
+    }
+}
+
+fn shifted_left(p: &mut Pool, kind: Kind, x: ExprId, y: ExprId) -> ExprId {
+    let z = p.shift_left(x, y);
+    wrapped(p, kind, z)
+}
+
+// To the left nothing is left past the width.
+fn left(p: &mut Pool, kind: Kind, x: ExprId, y: ExprId) -> ExprId {
+    match constant(p, y) {
+        Some(n) => left_by(p, kind, x, y, n),
+        None => {
+            let width = p.num(32);
+            let few = p.less(y, width);
+            let z = shifted_left(p, kind, x, y);
+            let none = p.num(0);
+            p.choice(few, z, none)
+        }
+    }
+}
+
+fn left_by(p: &mut Pool, kind: Kind, x: ExprId, y: ExprId, n: u64) -> ExprId {
+    if n < 32 {
+        return shifted_left(p, kind, x, y);
+    }
+    p.num(0)
+}
+
+// To the right the sign is left past the width, or nothing.
+fn right(p: &mut Pool, kind: Kind, x: ExprId, y: ExprId) -> ExprId {
+    if is_signed(kind) {
+        let by = at_most_31(p, y);
+        return p.shift_right(x, by);
+    }
+    match constant(p, y) {
+        Some(n) => right_by(p, x, y, n),
+        None => {
+            let width = p.num(32);
+            let few = p.less(y, width);
+            let z = p.shift_right_unsigned(x, y);
+            let none = p.num(0);
+            p.choice(few, z, none)
+        }
+    }
+}
+
+fn right_by(p: &mut Pool, x: ExprId, y: ExprId, n: u64) -> ExprId {
+    if n < 32 {
+        return p.shift_right_unsigned(x, y);
+    }
+    p.num(0)
+}
+
+fn at_most_31(p: &mut Pool, y: ExprId) -> ExprId {
+    match constant(p, y) {
+        Some(n) => p.num(n.min(31)),
+        None => {
+            let width = p.num(32);
+            let few = p.less(y, width);
+            let most = p.num(31);
+            p.choice(few, y, most)
+        }
+    }
+}
+
+// ---- all operations
+
+/// An operation on two numbers.
+pub fn binary(p: &mut Pool, op: Op, kind: Kind, x: ExprId, y: ExprId) -> ExprId {
+    match op {
+        Op::Add => {
+            let z = p.plus(x, y);
+            wrapped(p, kind, z)
+        }
+        Op::Sub => {
+            let z = p.sub(x, y);
+            wrapped(p, kind, z)
+        }
+        Op::Mul => times(p, kind, x, y),
+        Op::Div => quotient(p, kind, x, y),
+        Op::Rem => p.rem(x, y),
+        Op::And | Op::Or | Op::Xor | Op::AndNot => bits_of(p, op, kind, x, y),
+        Op::Shl => left(p, kind, x, y),
+        Op::Shr => right(p, kind, x, y),
+        _ => compared(p, op, x, y),
+    }
+}
+
+/// A comparison of two numbers or two strings.
+pub fn compared(p: &mut Pool, op: Op, x: ExprId, y: ExprId) -> ExprId {
+    match op {
+        Op::Eq => p.same(x, y),
+        Op::Ne => p.different(x, y),
+        Op::Lt => p.less(x, y),
+        Op::Le => p.less_equal(x, y),
+        Op::Gt => p.greater(x, y),
+        Op::Ge => p.greater_equal(x, y),
+        _ => x,
+    }
+}
+
+/// An operation on one number.
+pub fn unary(p: &mut Pool, op: Op, kind: Kind, x: ExprId) -> ExprId {
+    match op {
+        Op::Neg => {
+            let z = p.opposite(x);
+            wrapped(p, kind, z)
+        }
+        Op::Compl => not_bits(p, kind, x),
+        _ => x,
+    }
+}
+
+fn not_bits(p: &mut Pool, kind: Kind, x: ExprId) -> ExprId {
+    let z = p.complement(x);
+    if is_signed(kind) {
+        return z;
+    }
+    wrapped(p, kind, z)
+}
