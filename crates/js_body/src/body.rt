@@ -69,6 +69,8 @@ pub struct Body<'p> {
     pub open_case: u32,
     pub open_lines: Mark,
     pub first_case: Mark,
+    /// So many numbers of arguments have adapters, from none on: frames that call a plain function.
+    pub adapters: u32,
 }
 
 impl<'p> Body<'p> {
@@ -93,6 +95,7 @@ impl<'p> Body<'p> {
             open_case: BEGINNING,
             open_lines,
             first_case,
+            adapters: 0,
         }
     }
 
@@ -289,6 +292,11 @@ impl<'p> Body<'p> {
         }
     }
 
+    /// The last value of the stack.
+    pub fn last(&self) -> Operand {
+        self.value_at(self.stack.len().saturating_sub(1))
+    }
+
     /// The value at a place of the stack.
     pub fn value_at(&self, place: usize) -> Operand {
         match self.stack.get(place) {
@@ -331,6 +339,13 @@ impl<'p> Body<'p> {
     pub fn scratch(&mut self, e: ExprId) -> ExprId {
         self.push(e);
         self.pop().e
+    }
+
+    /// A frame that calls a plain function with so many arguments is needed.
+    pub fn need_adapter(&mut self, arguments: u32) {
+        if self.adapters <= arguments {
+            self.adapters = arguments.saturating_add(1);
+        }
     }
 
     // ---- labels

@@ -1,0 +1,399 @@
+//! Expressions: the parts of each are evaluated from left to right, and its step joins their values. Go
+//! specification (as of Go 1.17), "Expressions", "Order of evaluation".
+
+use crate::calls::{bind_dynamic, bind_method, call, called, closure};
+use crate::channels::{gate_add, gate_make, make_chan, receive, recover};
+use crate::compare::{equal, less, not};
+use crate::composites::{begin_build, end_build, let_in, new_value, set_element};
+use crate::constants::{constant, zero_value};
+use crate::interfaces::{assert_type, basic, wrap};
+use crate::logic::{begin_logic, end_logic};
+use crate::maps::{build_map, make_map, make_map_sized, map_get};
+use crate::numbers::{binary, constant_count, convert, count, size, unary};
+use crate::places::{
+    Spot, address, deref_spot, elem_spot, field_spot, global_spot, local_spot, read,
+    slice_elem_spot,
+};
+use crate::slices::{append, cap, copy_elems, len, make_slice, slice_of};
+use crate::stores::index_kind;
+use crate::strings::{byte_at, concat};
+use gj_base::Op;
+use go_core::node::{Callee, CoreElements, CoreExpr, CoreForm, CorePairs, CorePlace, PlaceForm};
+use js_body::Body;
+use js_facts::types::{pointed, type_of};
+
+/// The values of expressions, from left to right.
+#[cycle(expr)]
+pub fn exprs<'p>(b: &mut Body<'p>, es: &'p Vec<CoreExpr>) {
+    for e in es {
+        expr(b, e);
+    }
+}
+
+/// The values of an expression, from the depth of the stack on.
+#[cycle(expr)]
+pub fn expr<'p>(b: &mut Body<'p>, e: &'p CoreExpr) {
+    let from = b.depth();
+    match &*e.form {
+        CoreForm::Const { ty, value } => constant(b, *ty, value),
+        CoreForm::Zero { ty } => zero_value(b, *ty),
+        CoreForm::Read { ty, place } => {
+            let spot = placed(b, place);
+            read(b, from, spot, *ty);
+        }
+        CoreForm::Address { place, .. } => {
+            let spot = placed(b, place);
+            address(b, from, spot);
+        }
+        CoreForm::Unary { op, ty, operand } => {
+            expr(b, operand);
+            unary(b, *op, *ty);
+        }
+        CoreForm::Binary {
+            op,
+            ty,
+            left,
+            right,
+        } => {
+            expr(b, left);
+            let known = if is_shift(*op) {
+                constant_count(right)
+            } else {
+                None
+            };
+            match known {
+                Some(n) => b.push_number(n),
+                None => expr(b, right),
+            }
+            if known.is_none() && is_shift(*op) {
+                let t = type_of(b.table(), right);
+                count(b, t);
+            }
+            binary(b, *op, *ty);
+        }
+        CoreForm::Concat { left, right, .. } => {
+            expr(b, left);
+            expr(b, right);
+            concat(b);
+        }
+        CoreForm::Equal {
+            negated,
+            operands,
+            left,
+            right,
+            ..
+        } => {
+            expr(b, left);
+            expr(b, right);
+            equal(b, *negated, *operands);
+        }
+        CoreForm::Less {
+            op,
+            operands,
+            left,
+            right,
+            ..
+        } => {
+            expr(b, left);
+            expr(b, right);
+            less(b, *op, *operands);
+        }
+        CoreForm::AndThen { left, right, .. } => {
+            expr(b, left);
+            let l = begin_logic(b, true);
+            expr(b, right);
+            end_logic(b, l);
+        }
+        CoreForm::OrElse { left, right, .. } => {
+            expr(b, left);
+            let l = begin_logic(b, false);
+            expr(b, right);
+            end_logic(b, l);
+        }
+        CoreForm::Not { operand, .. } => {
+            expr(b, operand);
+            not(b);
+        }
+        CoreForm::Convert { from, ty, operand } => {
+            expr(b, operand);
+            convert(b, *from, *ty);
+        }
+        CoreForm::ByteAt { text, index } => {
+            expr(b, text);
+            expr(b, index);
+            let kind = index_kind(b, index);
+            byte_at(b, kind);
+        }
+        CoreForm::SliceOf {
+            from,
+            operand,
+            low,
+            high,
+            limit,
+            ..
+        } => {
+            expr(b, operand);
+            match low {
+                Some(low) => {
+                    expr(b, low);
+                    let t = type_of(b.table(), low);
+                    size(b, t);
+                }
+                None => b.push_number(0),
+            }
+            match high {
+                Some(high) => {
+                    expr(b, high);
+                    let t = type_of(b.table(), high);
+                    size(b, t);
+                }
+                None => b.push_nil(),
+            }
+            match limit {
+                Some(limit) => {
+                    expr(b, limit);
+                    let t = type_of(b.table(), limit);
+                    size(b, t);
+                }
+                None => b.push_nil(),
+            }
+            slice_of(b, *from);
+        }
+        CoreForm::Build {
+            ty,
+            count,
+            elements,
+        } => {
+            begin_build(b, *ty, *count);
+            built(b, elements);
+            end_build(b, *ty, *count);
+        }
+        CoreForm::BuildMap { ty, pairs } => {
+            paired(b, pairs);
+            build_map(b, from, *ty);
+        }
+        CoreForm::Closure { func, .. } => closure(b, *func),
+        CoreForm::Bind {
+            method,
+            receiver,
+            ..
+        } => {
+            expr(b, receiver);
+            bind_method(b, method);
+        }
+        CoreForm::BindDynamic {
+            name,
+            package,
+            receiver,
+            ..
+        } => {
+            expr(b, receiver);
+            let t = type_of(b.table(), receiver);
+            bind_dynamic(b, t, name, package);
+        }
+        CoreForm::Call {
+            results,
+            callee,
+            operands,
+        } => {
+            match callee {
+                Callee::Value(f) => expr(b, f),
+                Callee::Dynamic { receiver, .. } => expr(b, receiver),
+                _ => {}
+            }
+            exprs(b, &operands.items);
+            let c = called(b, callee);
+            call(b, c, from, results.as_slice().len());
+        }
+        CoreForm::MapGet {
+            map_type,
+            with_ok,
+            operand,
+            key,
+        } => {
+            expr(b, operand);
+            expr(b, key);
+            map_get(b, *map_type, *with_ok);
+        }
+        CoreForm::Len { from, operand } => {
+            expr(b, operand);
+            len(b, *from);
+        }
+        CoreForm::Cap { from, operand } => {
+            expr(b, operand);
+            cap(b, *from);
+        }
+        CoreForm::Append {
+            ty,
+            from,
+            operand,
+            elements,
+        } => {
+            expr(b, operand);
+            expr(b, elements);
+            append(b, *ty, *from);
+        }
+        CoreForm::CopyElems {
+            ty,
+            from,
+            target,
+            source,
+        } => {
+            expr(b, target);
+            expr(b, source);
+            copy_elems(b, *ty, *from);
+        }
+        CoreForm::MakeSlice {
+            ty,
+            length,
+            capacity,
+        } => {
+            expr(b, length);
+            let t = type_of(b.table(), length);
+            size(b, t);
+            match capacity {
+                Some(capacity) => {
+                    expr(b, capacity);
+                    let t = type_of(b.table(), capacity);
+                    size(b, t);
+                }
+                None => {
+                    let n = b.last();
+                    b.push_operand(n);
+                }
+            }
+            make_slice(b, *ty);
+        }
+        CoreForm::MakeMap { count, .. } => match count {
+            Some(count) => {
+                expr(b, count);
+                let t = type_of(b.table(), count);
+                size(b, t);
+                make_map_sized(b);
+            }
+            None => make_map(b),
+        },
+        CoreForm::MakeChan { capacity, .. } => {
+            match capacity {
+                Some(capacity) => {
+                    expr(b, capacity);
+                    let t = type_of(b.table(), capacity);
+                    size(b, t);
+                }
+                None => b.push_number(0),
+            }
+            make_chan(b);
+        }
+        CoreForm::New { ty } => new_value(b, *ty),
+        CoreForm::Wrap { from, operand, .. } => {
+            expr(b, operand);
+            wrap(b, *from);
+        }
+        CoreForm::Assert {
+            ty,
+            with_ok,
+            operand,
+        } => {
+            expr(b, operand);
+            assert_type(b, *ty, *with_ok);
+        }
+        CoreForm::Basic { operand, .. } => {
+            expr(b, operand);
+            basic(b);
+        }
+        CoreForm::Receive {
+            channel,
+            with_ok,
+            operand,
+        } => {
+            expr(b, operand);
+            receive(b, *channel, *with_ok);
+        }
+        CoreForm::Recover { .. } => recover(b),
+        CoreForm::GateMake { pointer } => {
+            expr(b, pointer);
+            gate_make(b);
+        }
+        CoreForm::GateAdd { cell, number } => {
+            expr(b, cell);
+            expr(b, number);
+            gate_add(b);
+        }
+        CoreForm::Let { vars, values, body } => {
+            exprs(b, &values.items);
+            let_in(b, from, vars.items.as_slice());
+            expr(b, body);
+        }
+    }
+}
+
+fn is_shift(op: Op) -> bool {
+    match op {
+        Op::Shl | Op::Shr => true,
+        _ => false,
+    }
+}
+
+// The elements of what is built, each after it has been evaluated.
+#[cycle(expr)]
+fn built<'p>(b: &mut Body<'p>, elements: &'p CoreElements) {
+    for el in &elements.items {
+        expr(b, &el.value);
+        set_element(b, el.index);
+    }
+}
+
+// The keys and values of a map, from left to right.
+#[cycle(expr)]
+fn paired<'p>(b: &mut Body<'p>, pairs: &'p CorePairs) {
+    for pair in &pairs.items {
+        expr(b, &pair.key);
+        expr(b, &pair.value);
+    }
+}
+
+/// A place, step by step; its operands stay on the stack.
+#[cycle(expr)]
+pub fn placed<'p>(b: &mut Body<'p>, p: &'p CorePlace) -> Spot {
+    match &*p.form {
+        PlaceForm::Local(v) => local_spot(b, *v),
+        PlaceForm::Global(n) => global_spot(b, n.0),
+        PlaceForm::Deref(e) => {
+            expr(b, e);
+            let o = b.last();
+            let t = pointed(b.table(), e);
+            deref_spot(b, t, o)
+        }
+        PlaceForm::Field {
+            struct_type,
+            number,
+            place,
+        } => {
+            let base = placed(b, place);
+            field_spot(b, *struct_type, *number, base)
+        }
+        PlaceForm::Elem {
+            array_type,
+            place,
+            index,
+        } => {
+            let base = placed(b, place);
+            expr(b, index);
+            let i = b.last();
+            let kind = index_kind(b, index);
+            elem_spot(b, *array_type, base, kind, i)
+        }
+        PlaceForm::SliceElem {
+            slice_type,
+            operand,
+            index,
+        } => {
+            expr(b, operand);
+            let s = b.last();
+            expr(b, index);
+            let i = b.last();
+            let kind = index_kind(b, index);
+            slice_elem_spot(b, *slice_type, s, kind, i)
+        }
+    }
+}

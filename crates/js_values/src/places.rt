@@ -1,0 +1,153 @@
+//! Places: what denotes storage, as an array and an element of it, or as the array of a struct or an array.
+//! Go specification (as of Go 1.17), "Address operators", "Selectors", "Index expressions".
+//!
+//! The operands of a place stay on the stack until it has been read or addressed: nothing that is evaluated
+//! later changes which place it is.
+
+use gj_base::Kind;
+use go_core::node::VarId;
+use go_type::types::TypeId;
+use js_body::{Body, Known, Operand};
+use js_facts::held::{element, field_type, parts};
+use js_pool::ExprId;
+
+/// A place.
+#[derive(Clone, Copy)]
+pub enum Spot {
+    /// The array of a struct or an array.
+    Block(ExprId),
+    /// An element of an array.
+    Cell(ExprId, ExprId),
+    /// A variable that isn't boxed, by its slot.
+    Var(u32),
+}
+
+/// A local variable.
+pub fn local_spot(b: &mut Body<'_>, v: VarId) -> Spot {
+    let h = b.home(v);
+    if b.is_block(h.ty) {
+        return Spot::Block(b.slot(h.slot));
+    }
+    if h.boxed {
+        let none = b.pool.num(0);
+        return Spot::Cell(b.slot(h.slot), none);
+    }
+    Spot::Var(h.slot)
+}
+
+/// A package variable.
+pub fn global_spot(b: &mut Body<'_>, n: u64) -> Spot {
+    let number = if n < 4294967295 { n as u32 } else { 4294967295 };
+    let x = b.pool.name_of(b"$g", number);
+    if is_global_block(b, number) {
+        return Spot::Block(x);
+    }
+    let none = b.pool.num(0);
+    Spot::Cell(x, none)
+}
+
+fn is_global_block(b: &Body<'_>, n: u32) -> bool {
+    match b.facts.program.globals.items.as_slice().get(n as usize) {
+        Some(v) => b.is_block(v.ty),
+        None => false,
+    }
+}
+
+/// What a pointer to a type points to.
+pub fn deref_spot(b: &mut Body<'_>, t: TypeId, o: Operand) -> Spot {
+    b.refuse_nil(o);
+    if b.is_block(t) {
+        return Spot::Block(o.e);
+    }
+    let holder = b.pool.at(o.e, 0);
+    Spot::Cell(holder, b.pool.at(o.e, 1))
+}
+
+/// A field of a struct.
+pub fn field_spot(b: &mut Body<'_>, t: TypeId, number: u32, base: Spot) -> Spot {
+    let ty = field_type(b.table(), t, number);
+    let block = block_of(b, base);
+    let n = b.pool.num(number as u64);
+    part(b, block, n, ty)
+}
+
+/// An element of an array at an index of this kind.
+pub fn elem_spot(b: &mut Body<'_>, t: TypeId, base: Spot, kind: Kind, i: Operand) -> Spot {
+    let ty = element(b.table(), t);
+    let count = parts(b.table(), t);
+    let i = within_array(b, kind, i, count);
+    let block = block_of(b, base);
+    part(b, block, i, ty)
+}
+
+// A constant that is known to be below the length needs no test.
+fn within_array(b: &mut Body<'_>, kind: Kind, i: Operand, count: u32) -> ExprId {
+    match i.known {
+        Known::Number(k) if k >= 0 && k < count as i64 => i.e,
+        _ => {
+            let n = b.pool.num(count as u64);
+            b.within(kind, i, n)
+        }
+    }
+}
+
+/// An element of a slice at an index of this kind.
+pub fn slice_elem_spot(b: &mut Body<'_>, t: TypeId, s: Operand, kind: Kind, i: Operand) -> Spot {
+    let ty = element(b.table(), t);
+    let i = within_slice(b, kind, s, i);
+    let from = b.pool.at(s.e, 1);
+    let place = b.pool.plus(from, i);
+    let holder = b.pool.at(s.e, 0);
+    part(b, holder, place, ty)
+}
+
+// A nil slice has no elements.
+fn within_slice(b: &mut Body<'_>, kind: Kind, s: Operand, i: Operand) -> ExprId {
+    let nil = b.is_nil(s);
+    let none = b.pool.num(0);
+    b.index_panic_if(nil, kind, i.e, none);
+    let n = b.pool.at(s.e, 2);
+    b.within(kind, i, n)
+}
+
+// ---- parts
+
+// The array of a struct or an array in a place.
+fn block_of(b: &mut Body<'_>, spot: Spot) -> ExprId {
+    match spot {
+        Spot::Block(e) => e,
+        Spot::Cell(a, i) => b.pool.index(a, i),
+        Spot::Var(n) => b.slot(n),
+    }
+}
+
+fn part(b: &mut Body<'_>, block: ExprId, i: ExprId, t: TypeId) -> Spot {
+    if b.is_block(t) {
+        return Spot::Block(b.pool.index(block, i));
+    }
+    Spot::Cell(block, i)
+}
+
+// ---- reads and pointers
+
+/// What stands at a place whose operands begin here: a struct or an array is copied.
+pub fn read(b: &mut Body<'_>, from: usize, spot: Spot, t: TypeId) {
+    b.drop_to(from);
+    let e = match spot {
+        Spot::Block(block) => b.copied(block, t),
+        Spot::Cell(a, i) => b.pool.index(a, i),
+        Spot::Var(n) => b.slot(n),
+    };
+    b.push(e);
+}
+
+/// The pointer to a place whose operands begin here. A variable that is addressed is boxed.
+pub fn address(b: &mut Body<'_>, from: usize, spot: Spot) {
+    b.drop_to(from);
+    let e = match spot {
+        Spot::Block(block) => block,
+        Spot::Cell(a, i) => b.pool.pair(a, i),
+        Spot::Var(n) => b.slot(n),
+    };
+    b.push(e);
+}
