@@ -21,7 +21,7 @@ use Rattle.go_items.specs.ItemView.{decls_of}
 use Rattle.go_packages.specs.Checked.{fault_of, least}
 use Rattle.js_tree.specs.Script.{ScriptTree}
 use Rattle.js_tree.specs.Printed.{plain}
-use Rattle.js_emit.specs.Faithful.{Faithful}
+use Rattle.js_prints.specs.Faithful.{Faithful}
 use Rattle.gj_command.specs.Settings.{Settings, build}
 use Rattle.gj_plain.specs.Plain.{Main, plain_main}
 use Rattle.gj_command.specs.Answers.{out_file, HoldsProgram, AreUnbuilt, AreFaulty, IsToldFault, StoresScript, Builds}

@@ -8,7 +8,7 @@ use Rattle.gj_command.specs.Settings.{Settings, build}
 use Rattle.gj_base.specs.Tree.{with_file}
 use Rattle.js_tree.specs.Script.{ScriptTree}
 use Rattle.js_tree.specs.Printed.{plain}
-use Rattle.js_emit.specs.Faithful.{Faithful}
+use Rattle.js_prints.specs.Faithful.{Faithful}
 use Rattle.go_load.specs.Load.{FailsToRead}
 use Rattle.go_load.specs.declared.sources.FileEntry.{FileEntry}
 use Rattle.gj_command.specs.FaultText.{told_fault, fault_line}

@@ -25,8 +25,8 @@ use Rattle.gj_plain.specs.declared.plain.Main as code
 use Rattle.go_items.specs.ItemView.{decls_of}
 use Rattle.go_lines.specs.Lines.{PlainOnlyPrints}
 use Rattle.js_tree.specs.Script.{ScriptTree}
-use Rattle.js_emit.specs.Faithful.{Faithful}
-use Rattle.js_emit.specs.Prints.{only_prints}
+use Rattle.js_prints.specs.Faithful.{Faithful}
+use Rattle.js_prints.specs.Prints.{only_prints}
 use Rattle.gj_plain.specs.Plain as p
 use Rattle.gj_plain.specs.Plain.{plain_main, main_in}
 use Rattle.go_stmt.specs.Checks.{root_trees, Checks, IsProgramOf}

@@ -18,7 +18,7 @@ use Rattle.go_stmt.specs.Checks.{fault_with}
 use Rattle.go_items.specs.ItemView.{decls_of}
 use Rattle.js_tree.specs.Script.{ScriptTree}
 use Rattle.js_tree.specs.Printed.{plain}
-use Rattle.js_emit.specs.Faithful.{Faithful}
+use Rattle.js_prints.specs.Faithful.{Faithful}
 use Rattle.gj_plain.specs.Plain.{Main, plain_main}
 use Rattle.gj_command.specs.declared.build.Refused.{Refused}
 use Rattle.gj_command.specs.declared.build.Refused.TheVariants as refused

@@ -18,7 +18,7 @@ use Rattle.go_load.specs.declared.packages.LoadRefusal.{LoadRefusal}
 use Rattle.go_load.specs.declared.packages.LoadRefusal.TheVariants as load
 use Rattle.js_tree.specs.Script.{ScriptTree}
 use Rattle.js_tree.specs.Printed.{plain}
-use Rattle.js_emit.specs.Faithful.{Faithful}
+use Rattle.js_prints.specs.Faithful.{Faithful}
 use Rattle.go_core.specs.CoreTree.{CoreProgram}
 use Rattle.go_type.specs.Tree.{Ty}
 use Rattle.gj_plain.specs.Plain as p

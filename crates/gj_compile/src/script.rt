@@ -7,7 +7,7 @@ use go_core::program::Program;
 use go_core::tree::{FuncSet, Order};
 use go_load::Sources;
 use go_stmt::gone_program;
-use js_emit::emit;
+use js_prints::emit;
 use js_tree::Script;
 use std::alloc::Global;
 
