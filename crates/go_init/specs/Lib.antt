@@ -1,1 +1,2 @@
 pub mod InitOrder
+pub mod OrderRows

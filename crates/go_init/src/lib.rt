@@ -5,6 +5,7 @@
 //! depends on itself by its components, and then sets one ready variable after the other.
 #![tactic(auto)]
 
+pub mod laws;
 pub mod order;
 pub mod packages;
 pub mod references;
