@@ -42,6 +42,8 @@ pub struct Exits {
     pub label: Label,
     pub after: u32,
     pub next: u32,
+    /// Whether a branch went on with the next turn.
+    pub continued: bool,
 }
 
 /// All that is known while functions become functions of the script.
@@ -361,13 +363,38 @@ impl<'p> Body<'p> {
             label,
             after: 0,
             next: 0,
+            continued: false,
         }
     }
 
     /// Branches to a label lead here from now on.
     pub fn enter_label(&mut self, label: Label, after: u32, next: u32) {
-        if self.exits.push(Exits { label, after, next }).is_err() {
+        let exits = Exits {
+            label,
+            after,
+            next,
+            continued: false,
+        };
+        if self.exits.push(exits).is_err() {
             self.pool.failed = true;
+        }
+    }
+
+    /// Notes that a branch goes on with the next turn of a label's loop.
+    pub fn note_continued(&mut self, label: Label) {
+        for i in 0..self.exits.len() {
+            if self.exits[i].label == label {
+                let exits = &mut self.exits[i];
+                exits.continued = true;
+            }
+        }
+    }
+
+    /// Whether a branch went on with the next turn of the innermost label's loop.
+    pub fn is_continued(&self) -> bool {
+        match self.exits.last() {
+            Some(exits) => exits.continued,
+            None => false,
         }
     }
 
