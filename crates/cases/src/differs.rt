@@ -1,7 +1,7 @@
 //! What differs from what a case says.
 
 use gj_base::{NoMemory, Text};
-use std::alloc::{AllocError, Global};
+use std::alloc::{AllocError, AllocFailed, Global};
 
 /// Why a case doesn't hold.
 #[derive(Debug, Drop)]
@@ -23,6 +23,14 @@ impl From<AllocError> for Failed {
     ghost from_gives = { λ _ _. Unit {0} };
 
     fn from(_e: AllocError) -> Failed {
+        Failed::NoMemory
+    }
+}
+
+impl<T: Drop> From<AllocFailed<T>> for Failed {
+    ghost from_gives = { λ _ _. Unit {0} };
+
+    fn from(_e: AllocFailed<T>) -> Failed {
         Failed::NoMemory
     }
 }

@@ -4,7 +4,7 @@ use crate::case::{Case, Part};
 use crate::rows::add_rows;
 use gj_base::Text;
 use std::alloc::Global;
-use std::fs::DirEntry;
+use std::io::ErrorKind;
 use std::{fs, io, rt};
 
 /// More folders than a case has.
@@ -25,7 +25,9 @@ pub fn cases_here<R: rt::Files + AllocGlobal + Clone + Drop>(
         } else if name.ends_with(".rows") {
             let bytes = fs::read(rt, name)?;
             let topic = name.trim_end_matches(".rows");
-            add_rows(alloc, topic.as_bytes(), bytes.as_slice(), &mut cases)?;
+            if add_rows(alloc, topic.as_bytes(), bytes.as_slice(), &mut cases).is_err() {
+                return Err(io::Error::from(ErrorKind::OutOfMemory));
+            }
         }
     }
     Ok(cases)
@@ -38,7 +40,7 @@ fn folder_case<R: rt::Files + AllocGlobal + Clone + Drop>(
     name: &str,
 ) -> io::Result<Case> {
     let mut case = Case {
-        name: Text::from_slice(alloc, name.as_bytes())?,
+        name: Text::from_vec(name.as_bytes().to_vec(alloc)?),
         parts: Vec::new(alloc),
     };
     let mut folders = Vec::new(alloc);
@@ -70,7 +72,7 @@ fn add_folder<R: rt::Files + AllocGlobal + Clone + Drop>(
         } else {
             let bytes = fs::read(rt, format!(in alloc; "{name}/{}", below.as_str())?.as_str())?;
             case.parts.push(Part {
-                path: Text::from_slice(alloc, below.as_bytes())?,
+                path: Text::from_vec(below.as_bytes().to_vec(alloc)?),
                 bytes: Text::from_vec(bytes),
             })?;
         }

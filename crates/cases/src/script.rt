@@ -61,7 +61,7 @@ pub fn built_runs(alloc: Global, case: &Case, words: &[Text], run: &Called) -> R
 // Whether words ask for a run that has neither a seed nor a budget.
 fn is_built(words: &[Text]) -> bool {
     match words.first() {
-        Some(word) if word.as_bytes() == b"run" => {}
+        Some(word) if word.as_bytes() == b"run".as_slice() => {}
         _ => return false,
     }
     for word in words {
