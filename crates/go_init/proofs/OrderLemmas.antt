@@ -175,8 +175,8 @@ sets =
     (next_set (1 ∷ 2 ∷ []) (0 ∷ 1 ∷ 2 ∷ []) 0 0 var_a [] a_is_next (record { holder = var_a; is_variable = is_a; first_one = refl }) (set_with 0 var_a (1 ∷ 2 ∷ []) is_a)
     (all_set (0 ∷ 1 ∷ 2 ∷ []) all_there)))
 
-package : InitialisesPackage by_need root (initialise 2 ∷ initialise 1 ∷ initialise 0 ∷ call_init 3 ∷ [])
-package = record { variables = initialise 2 ∷ initialise 1 ∷ initialise 0 ∷ []; sets_variables = sets; then_inits = refl }
+whole : InitialisesPackage by_need root (initialise 2 ∷ initialise 1 ∷ initialise 0 ∷ call_init 3 ∷ [])
+whole = record { variables = initialise 2 ∷ initialise 1 ∷ initialise 0 ∷ []; sets_variables = sets; then_inits = refl }
 
 is_next : IsNextPackage by_need [] root
 is_next = record {
@@ -186,7 +186,7 @@ is_next = record {
 
 first_order : InitialisesPackages by_need [] (initialise 2 ∷ initialise 1 ∷ initialise 0 ∷ call_init 3 ∷ [])
 first_order =
-    next_done [] root (initialise 2 ∷ initialise 1 ∷ initialise 0 ∷ call_init 3 ∷ []) [] is_next package
+    next_done [] root (initialise 2 ∷ initialise 1 ∷ initialise 0 ∷ call_init 3 ∷ []) [] is_next whole
     (all_done ([] ∷ []) (λ row h. of_each (λ (r : PackageRow). Contains ([] ∷ []) r.path) (root ∷ []) (here [] [], tt) row h))
 
 -- ---- round
