@@ -177,6 +177,11 @@ impl<'p> Body<'p> {
         }
     }
 
+    /// The result with a number.
+    pub fn result(&self, i: usize) -> Option<Home> {
+        self.results.get(i).copied()
+    }
+
     /// The home of a variable.
     pub fn home(&self, v: VarId) -> Home {
         let fact = self.facts.var(v);

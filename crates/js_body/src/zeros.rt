@@ -115,7 +115,7 @@ impl<'p> Body<'p> {
         let mut work = Vec::new(self.pool.alloc);
         let mut done = Vec::new(self.pool.alloc);
         for t in 0..self.table().len() {
-            let t = self.facts.under(TypeId(self.table().len() - 1 - t));
+            let t = self.facts.under(TypeId(t));
             if done.push(0u8).is_err() || work.push(t).is_err() {
                 self.pool.failed = true;
             }

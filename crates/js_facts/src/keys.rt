@@ -6,19 +6,17 @@ use go_type::types::{Sig, TypeId};
 use std::alloc::Global;
 
 fn push_number(out: &mut Text, n: u64) -> Result<(), NoMemory> {
-    let mut power: u64 = 1;
-    for _ in 0..19 {
-        if n / power >= 10 {
-            power = power.saturating_mul(10);
+    let mut room = [b'0'; 20];
+    let mut from: usize = 20;
+    let mut rest = n;
+    for i in 0..20 {
+        room[19 - i] = b'0' + (rest % 10) as u8;
+        if rest != 0 {
+            from = 19 - i;
         }
+        rest /= 10;
     }
-    for _ in 0..20 {
-        if power > 0 {
-            out.push(b'0' + (n / power % 10) as u8)?;
-            power /= 10;
-        }
-    }
-    Ok(())
+    out.push_bytes(&room[from.min(19)..])
 }
 
 fn push_ids(out: &mut Text, ids: &[TypeId]) -> Result<(), NoMemory> {

@@ -1,5 +1,6 @@
 //! Frames of calls of plain functions, after `go` and `defer`: `$nN` makes one for N arguments, and `$oN` is
-//! its machine, which calls the function and goes on below.
+//! its machine, which calls the function and goes on below. `$nil` is the machine of a frame whose receiver
+//! is read through nil.
 
 use crate::frames::{begin_frame, end_frame, operand};
 use js_body::Body;
@@ -13,6 +14,17 @@ pub fn add_adapters(b: &mut Body<'_>) {
         add_maker(b, n);
         add_call(b, n);
     }
+    add_nil(b);
+}
+
+// `function $nil($f){if($f[1]===0){$unwind($f);return;}$panic($p2);}`
+fn add_nil(b: &mut Body<'_>) {
+    let mark = b.pool.open();
+    leave_panicking(b);
+    b.panic(2);
+    let body = b.pool.close(mark);
+    let names = b.pool.params(&[Name::Word(b"$f")]);
+    b.pool.function(Name::Word(b"$nil"), names, body);
 }
 
 // `function $nN($u,$c,$0,..){return [$oN,1,$u,null,0,null,null,null,$c,$0,..];}`

@@ -27,8 +27,7 @@ pub fn return_values(b: &mut Body<'_>) {
 // The values on the stack become the results.
 fn set_results(b: &mut Body<'_>) {
     for i in 0..b.depth() {
-        if i < b.results.len() {
-            let h = b.results[i];
+        if let Some(h) = b.result(i) {
             let o = b.value_at(i);
             b.set_var(h, o.e);
         }
@@ -50,10 +49,11 @@ pub fn give_results(b: &mut Body<'_>) {
     let many = b.results.len();
     let mark = b.pool.open_list();
     for i in 0..many {
-        let h = b.results[i];
-        let e = b.var(h);
-        let e = b.own(e, h.ty);
-        b.pool.item(e);
+        if let Some(h) = b.result(i) {
+            let e = b.var(h);
+            let e = b.own(e, h.ty);
+            b.pool.item(e);
+        }
     }
     let items = b.pool.close_list(mark);
     give_back(b, items, many);

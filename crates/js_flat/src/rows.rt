@@ -2,7 +2,7 @@
 //! as it is in an interface value and in a method value, after the frame below where it makes a frame. Go
 //! specification (as of Go 1.17), "Method sets", "Method values".
 
-use crate::frames::{frame, maker_params, operand};
+use crate::frames::{begin_frame, end_frame, frame, maker_params, operand};
 use go_core::program::{Func, MethodRow};
 use go_core::tree::FuncId;
 use go_type::types::{GoType, TypeId};
@@ -31,13 +31,33 @@ pub fn add_row(b: &mut Body<'_>, number: u32) {
 }
 
 fn return_frame(b: &mut Body<'_>, row: &MethodRow, f: &Func) {
-    let receiver = receiver(b, row.ty, receiver_type(row, f));
+    let to = receiver_type(row, f);
+    if is_read(b, row.ty, to) {
+        return_nil_frame(b);
+    }
+    let receiver = receiver(b, row.ty, to);
     let e = frame(b, row.func, f, receiver);
     b.pool.give(e);
 }
 
+// Where the receiver is read through nil, the new frame does no more than to panic.
+fn return_nil_frame(b: &mut Body<'_>) {
+    let test = is_nil_receiver(b);
+    let mark = b.pool.open();
+    let list = begin_frame(b, Name::Word(b"$nil"));
+    let e = end_frame(b, list, 0);
+    b.pool.give(e);
+    let block = b.pool.close(mark);
+    b.pool.when(test, block);
+}
+
 fn return_call(b: &mut Body<'_>, row: &MethodRow, f: &Func) {
-    let receiver = receiver(b, row.ty, receiver_type(row, f));
+    let to = receiver_type(row, f);
+    if is_read(b, row.ty, to) {
+        let test = is_nil_receiver(b);
+        b.panic_if(test, 2);
+    }
+    let receiver = receiver(b, row.ty, to);
     let e = plain_call(b, row.func, receiver);
     if f.sig.results.as_slice().is_empty() {
         b.pool.perform(e);
@@ -78,10 +98,25 @@ fn is_pointer_to(b: &Body<'_>, t: TypeId, to: TypeId) -> bool {
     }
 }
 
+fn receiver_held(b: &mut Body<'_>) -> ExprId {
+    let held = b.pool.name(b"$c");
+    b.pool.at(held, 1)
+}
+
+fn is_nil_receiver(b: &mut Body<'_>) -> ExprId {
+    let x = receiver_held(b);
+    let none = b.pool.null();
+    b.pool.same(x, none)
+}
+
+// Whether a receiver is read through the pointer that a row has.
+fn is_read(b: &Body<'_>, t: TypeId, to: TypeId) -> bool {
+    t.0 != to.0 && is_pointer_to(b, t, to)
+}
+
 // The receiver of a method's function, from the one that its row has.
 fn receiver(b: &mut Body<'_>, t: TypeId, to: TypeId) -> ExprId {
-    let held = b.pool.name(b"$c");
-    let x = b.pool.at(held, 1);
+    let x = receiver_held(b);
     if t.0 == to.0 {
         return b.own(x, to);
     }
@@ -92,11 +127,8 @@ fn receiver(b: &mut Body<'_>, t: TypeId, to: TypeId) -> ExprId {
     b.pointer_to(copy, t)
 }
 
-// The value that a pointer points to; nil panics.
+// The value that a pointer points to.
 fn pointed(b: &mut Body<'_>, x: ExprId, to: TypeId) -> ExprId {
-    let none = b.pool.null();
-    let nil = b.pool.same(x, none);
-    b.panic_if(nil, 2);
     if b.is_block(to) {
         return b.own(x, to);
     }

@@ -1,11 +1,72 @@
 //! Composite literals, `new`, and fresh variables in expressions: Go specification (as of Go 1.17),
 //! "Composite literals", "Allocation".
 
-use go_core::node::Var;
+use go_core::node::{CoreElement, Var};
 use go_type::types::TypeId;
 use js_body::Body;
 use js_facts::Held;
-use js_facts::held::element;
+use js_facts::held::{element, field_type, parts};
+use js_pool::ExprId;
+
+/// So many elements are built as one array.
+const ELEMENTS: u32 = 64;
+
+// How many elements the array of a literal has.
+fn part_count(b: &Body<'_>, t: TypeId, count: u32) -> u32 {
+    match b.held(t) {
+        Held::Slice => count,
+        _ => parts(b.table(), t),
+    }
+}
+
+/// Whether a struct, an array or a slice of so many elements is built as one array.
+pub fn is_small(b: &Body<'_>, t: TypeId, count: u32) -> bool {
+    part_count(b, t, count) <= ELEMENTS
+}
+
+/// Builds a struct, an array or a slice of so many elements as one array: the elements that are given stand
+/// from here on, and all others are zero.
+pub fn build_small(b: &mut Body<'_>, from: usize, t: TypeId, count: u32, elements: &[CoreElement]) {
+    let mark = b.pool.open_list();
+    for i in 0..part_count(b, t, count) {
+        let e = element_at(b, from, t, i, elements);
+        b.pool.item(e);
+    }
+    let items = b.pool.close_list(mark);
+    let e = b.pool.array(items);
+    b.drop_to(from);
+    b.push(e);
+}
+
+// The element with this number: where several are given, the last one.
+fn element_at(
+    b: &mut Body<'_>,
+    from: usize,
+    t: TypeId,
+    i: u32,
+    elements: &[CoreElement],
+) -> ExprId {
+    let mut at = from;
+    let mut found = None;
+    for el in elements {
+        if el.index == i {
+            found = Some(at);
+        }
+        at = at.saturating_add(1);
+    }
+    match found {
+        Some(at) => b.value_at(at).e,
+        None => zero_part(b, t, i),
+    }
+}
+
+fn zero_part(b: &mut Body<'_>, t: TypeId, i: u32) -> ExprId {
+    let of = match b.held(t) {
+        Held::Struct(_) => field_type(b.table(), t, i),
+        _ => element(b.table(), t),
+    };
+    b.zero(of)
+}
 
 /// Begins a struct, an array or a slice of so many elements: its zero.
 pub fn begin_build(b: &mut Body<'_>, t: TypeId, count: u32) {

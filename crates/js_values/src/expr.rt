@@ -4,7 +4,9 @@
 use crate::calls::{bind_dynamic, bind_method, call, called, closure};
 use crate::channels::{gate_add, gate_make, make_chan, receive, recover};
 use crate::compare::{equal, less, not};
-use crate::composites::{begin_build, end_build, let_in, new_value, set_element};
+use crate::composites::{
+    begin_build, build_small, end_build, is_small, let_in, new_value, set_element,
+};
 use crate::constants::{constant, zero_value};
 use crate::interfaces::{assert_type, basic, wrap};
 use crate::logic::{begin_logic, end_logic};
@@ -164,8 +166,14 @@ pub fn expr<'p>(b: &mut Body<'p>, e: &'p CoreExpr) {
             count,
             elements,
         } => {
-            begin_build(b, *ty, *count);
-            built(b, elements);
+            let small = is_small(b, *ty, *count);
+            if !small {
+                begin_build(b, *ty, *count);
+            }
+            built(b, elements, small);
+            if small {
+                build_small(b, from, *ty, *count, elements.items.as_slice());
+            }
             end_build(b, *ty, *count);
         }
         CoreForm::BuildMap { ty, pairs } => {
@@ -334,12 +342,14 @@ fn is_shift(op: Op) -> bool {
     }
 }
 
-// The elements of what is built, each after it has been evaluated.
+// The elements of what is built; each is stored after it has been evaluated, or stays on the stack.
 #[cycle(expr)]
-fn built<'p>(b: &mut Body<'p>, elements: &'p CoreElements) {
+fn built<'p>(b: &mut Body<'p>, elements: &'p CoreElements, stay: bool) {
     for el in &elements.items {
         expr(b, &el.value);
-        set_element(b, el.index);
+        if !stay {
+            set_element(b, el.index);
+        }
     }
 }
 

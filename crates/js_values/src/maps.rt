@@ -38,11 +38,13 @@ pub fn build_map(b: &mut Body<'_>, from: usize, t: TypeId) {
     let end = b.depth();
     make_map(b);
     let m = b.last();
-    for i in from..end {
-        if (i - from) % 2 == 1 {
-            let key = b.value_at(i - 1);
-            let value = b.value_at(i);
+    let mut at = from;
+    for _ in from..end {
+        if at < end {
+            let key = b.value_at(at);
+            let value = b.value_at(at.saturating_add(1));
             set_entry(b, t, m.e, key.e, value.e);
+            at = at.saturating_add(2);
         }
     }
     b.drop_to(from);
