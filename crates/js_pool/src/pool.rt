@@ -17,6 +17,8 @@ pub struct Pool {
     pub cases: Vec<Case>,
     pub names: Vec<Name>,
     pub items: Vec<Item>,
+    /// For each item how many expressions there were after it: its own are those since the one before.
+    pub ends: Vec<usize>,
     pub lines: Vec<Stmt>,
     pub rest: Vec<ExprId>,
     pub arms: Vec<Case>,
@@ -49,6 +51,7 @@ impl Pool {
             cases: Vec::new(alloc),
             names: Vec::new(alloc),
             items: Vec::new(alloc),
+            ends: Vec::new(alloc),
             lines: Vec::new(alloc),
             rest: Vec::new(alloc),
             arms: Vec::new(alloc),
@@ -275,7 +278,7 @@ impl Pool {
     }
 
     fn top(&mut self, item: Item) {
-        if self.items.push(item).is_err() {
+        if self.items.push(item).is_err() || self.ends.push(self.nodes.len()).is_err() {
             self.failed = true;
         }
     }
