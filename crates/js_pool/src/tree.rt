@@ -14,8 +14,9 @@ use std::alloc::{AllocError, AllocFailed};
 #[derive(Clone, Copy, Debug, PartialEq, Eq)]
 pub enum Unmade {
     NoMemory,
-    /// Parts of parts lie deeper than `DEPTH`.
-    TooDeep,
+    /// A mistake of the compiler: parts of parts lie deeper than `DEPTH`, or a text of the run-time
+    /// library is no script.
+    Internal,
 }
 
 /// How deep expressions lie in an expression at most, and blocks in a block: a script whose text the
@@ -81,7 +82,7 @@ impl Pool {
     #[cycle(expr)]
     fn expr_within(&self, id: ExprId, depth: u32) -> Result<JsExpr, Unmade> {
         if depth == 0 {
-            return Err(Unmade::TooDeep);
+            return Err(Unmade::Internal);
         }
         let form = self.expr_form(self.node(id), depth - 1)?;
         Ok(JsExpr { form, at: 0 })
@@ -209,7 +210,7 @@ impl Pool {
     #[cycle(stmt)]
     fn stmt_trees(&self, block: Block, depth: u32) -> Result<JsStmts, Unmade> {
         if depth == 0 {
-            return Err(Unmade::TooDeep);
+            return Err(Unmade::Internal);
         }
         let mut items = Vec::new(self.alloc);
         for s in block.of(self.stmts.as_slice()) {
@@ -281,7 +282,7 @@ impl Pool {
     #[cycle(stmt)]
     fn else_if(&self, test: ExprId, body: Block, rest: Else, depth: u32) -> Tail {
         if depth == 0 {
-            return Err(Unmade::TooDeep);
+            return Err(Unmade::Internal);
         }
         let body = self.stmt_trees(body, depth - 1)?;
         let rest = self.tail(rest, depth - 1)?;

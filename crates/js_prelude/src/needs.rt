@@ -1,0 +1,235 @@
+//! Which parts of the library a script needs, and their trees.
+
+use crate::gates::GATES;
+use crate::halves::HALVES;
+use crate::maps::MAPS;
+use crate::memory::MEMORY;
+use crate::talk::{TALK, TURN_ALONE};
+use crate::text::TEXT;
+use crate::unwinding::{REPORT_ALONE, TOLD_NARROW, UNWINDING};
+use crate::word::{first_word, panic_number};
+use js_pool::{Name, Node, Pool, Stmt, Unmade};
+use js_read::{ReadRefusal, read};
+use js_tree::{JsItem, preamble};
+use std::alloc::Global;
+
+/// A function or a variable of the library, with its text.
+#[derive(Clone, Copy)]
+struct Part {
+    name: &'static [u8],
+    text: &'static [u8],
+    needed: bool,
+}
+
+/// The parts of the library, and which of them are needed: those that are asked for, and what they
+/// mention in turn.
+#[derive(Drop)]
+pub struct Needs {
+    alloc: Global,
+    parts: Vec<Part>,
+    /// Parts whose texts are still to be gone over.
+    work: Vec<usize>,
+    /// Which run-time panics are mentioned.
+    panics: [bool; 13],
+    /// Whether some type has a method `Error` that a report calls.
+    pub errors: bool,
+    /// Whether a report may tell a number of 64 bits.
+    pub wide: bool,
+    /// Whether memory ran out.
+    failed: bool,
+}
+
+impl Needs {
+    /// Nothing is needed.
+    pub fn new(alloc: Global) -> Needs {
+        let mut needs = Needs {
+            alloc,
+            parts: Vec::new(alloc),
+            work: Vec::new(alloc),
+            panics: [false; 13],
+            errors: true,
+            wide: true,
+            failed: false,
+        };
+        needs.add_parts(HALVES.as_slice());
+        needs.add_parts(TEXT.as_slice());
+        needs.add_parts(MEMORY.as_slice());
+        needs.add_parts(MAPS.as_slice());
+        needs.add_parts(TALK.as_slice());
+        needs.add_parts(GATES.as_slice());
+        needs.add_parts(UNWINDING.as_slice());
+        needs
+    }
+
+    fn add_parts(&mut self, texts: &'static [&'static str]) {
+        for text in texts {
+            self.add_part(text.as_bytes());
+        }
+    }
+
+    // The name of a part is its second word, after `function` or `var`.
+    fn add_part(&mut self, text: &'static [u8]) {
+        let (_, rest) = first_word(text);
+        let (name, _) = first_word(rest);
+        let part = Part {
+            name,
+            text,
+            needed: false,
+        };
+        if self.parts.push(part).is_err() {
+            self.failed = true;
+        }
+    }
+
+    // ---- what is needed
+
+    /// A name is mentioned: the part of this name is needed, where there is one.
+    pub fn need(&mut self, name: &[u8]) {
+        self.need_panic(panic_number(name));
+        for i in 0..self.parts.len() {
+            if self.parts[i].name == name && !self.parts[i].needed {
+                self.parts[i].needed = true;
+                if self.work.push(i).is_err() {
+                    self.failed = true;
+                }
+            }
+        }
+    }
+
+    fn need_panic(&mut self, n: usize) {
+        if n < 13 {
+            self.panics[n] = true;
+        }
+    }
+
+    fn need_name(&mut self, x: Name) {
+        match x {
+            Name::Word(word) => self.need(word),
+            Name::Numbered(word, n) => {
+                if word == b"$p".as_slice() {
+                    self.need_panic(n as usize);
+                }
+            }
+        }
+    }
+
+    /// All names that a script under construction mentions.
+    pub fn need_all_of(&mut self, pool: &Pool) {
+        for node in pool.nodes.as_slice() {
+            if let Node::Name(x) = *node {
+                self.need_name(x);
+            }
+        }
+        for s in pool.stmts.as_slice() {
+            if let Stmt::Assign(x, _) = *s {
+                self.need_name(x);
+            }
+        }
+        self.follow();
+    }
+
+    // What needed parts mention is needed.
+    fn follow(&mut self) {
+        self.follow_work();
+        if self.waits() {
+            self.need(b"$end");
+            self.need(b"$q");
+            self.need(b"$rest");
+            self.follow_work();
+        }
+    }
+
+    fn follow_work(&mut self) {
+        for _ in 0..self.parts.len() {
+            let Some(i) = self.work.pop() else {
+                return;
+            };
+            self.need_words(self.text_of(i));
+        }
+    }
+
+    fn need_words(&mut self, text: &[u8]) {
+        let mut rest = text;
+        for _ in 0..text.len() {
+            let (word, after) = first_word(rest);
+            if word.len() == 0 {
+                return;
+            }
+            self.need(word);
+            rest = after;
+        }
+    }
+
+    /// Whether a part is needed.
+    pub fn has(&self, name: &[u8]) -> bool {
+        for part in self.parts.as_slice() {
+            if part.name == name {
+                return part.needed;
+            }
+        }
+        false
+    }
+
+    /// Whether the run-time panic with this number is mentioned.
+    pub fn has_panic(&self, n: usize) -> bool {
+        n < 13 && self.panics[n]
+    }
+
+    // Whether a frame may wait.
+    fn waits(&self) -> bool {
+        self.has(b"$q") || self.has(b"$line")
+    }
+
+    // The text of a part in this script.
+    fn text_of(&self, i: usize) -> &'static [u8] {
+        let Some(part) = self.parts.get(i) else {
+            return b"";
+        };
+        match part.name {
+            b"$turn" if !self.waits() => TURN_ALONE.as_bytes(),
+            b"$report" if !self.errors => REPORT_ALONE.as_bytes(),
+            b"$told" if !self.wide => TOLD_NARROW.as_bytes(),
+            _ => part.text,
+        }
+    }
+
+    // ---- trees
+
+    /// Adds the functions and variables that are needed, in the order of the library.
+    pub fn add_items(&self, items: &mut Vec<JsItem>) -> Result<(), Unmade> {
+        if self.failed {
+            return Err(Unmade::NoMemory);
+        }
+        let bytes = self.script_text()?;
+        add_read(self.alloc, bytes.as_slice(), items)
+    }
+
+    // A script of the parts that are needed.
+    fn script_text(&self) -> Result<Vec<u8>, Unmade> {
+        let mut bytes = Vec::from_slice(self.alloc, preamble())?;
+        for i in 0..self.parts.len() {
+            if self.parts[i].needed {
+                bytes.extend_from_slice(self.text_of(i))?;
+            }
+        }
+        bytes.extend_from_slice(b"$f();")?;
+        Ok(bytes)
+    }
+}
+
+// Adds the items of a script's text.
+fn add_read(alloc: Global, bytes: &[u8], items: &mut Vec<JsItem>) -> Result<(), Unmade> {
+    if bytes.len() >= 4294967295 {
+        return Err(Unmade::Internal);
+    }
+    match read(alloc, bytes) {
+        Ok(script) => {
+            for item in script.items {
+                items.push(item)?;
+            }
+            Ok(())
+        }
+        Err(ReadRefusal::NoMemory) => Err(Unmade::NoMemory),
+        Err(ReadRefusal::Syntax(_)) => Err(Unmade::Internal),
+    }
+}
