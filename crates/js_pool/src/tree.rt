@@ -414,7 +414,8 @@ impl Pool {
         })
     }
 
-    fn item_tree(&self, item: Item) -> Result<JsItem, Unmade> {
+    /// The tree of what stands at a script's top.
+    pub fn item_tree(&self, item: Item) -> Result<JsItem, Unmade> {
         match item {
             Item::Function(x, params, body) => {
                 let f = self.function_tree(x, params, body)?;

@@ -128,8 +128,8 @@ impl Needs {
         self.follow();
     }
 
-    // What needed parts mention is needed.
-    fn follow(&mut self) {
+    /// What needed parts mention is needed.
+    pub fn follow(&mut self) {
         self.follow_work();
         if self.waits() {
             self.need(b"$end");
