@@ -4,42 +4,47 @@ use crate::resolve::{enter, initialise};
 use crate::unit::{UnitForm, Units};
 use gj_base::NoMemory;
 use go_check_state::{Checker, FaultCode, Shape};
-use go_check_stmt::{bodies, function_body};
+use go_check_stmt::literals::{Literals, in_expr};
+use go_check_stmt::{BodyRow, add_literals};
+use go_syntax::tree::Expr;
 
-/// Initialisers of variables with a type, and the function literals of all initialisers.
-pub fn initialisers(c: &mut Checker, u: &Units<'_>, from: usize) -> Result<(), NoMemory> {
-    for number in from..u.rows.len() {
+/// Initialisers of variables with a type.
+pub fn initialisers(c: &mut Checker, u: &Units<'_>) -> Result<(), NoMemory> {
+    for number in 0..u.rows.len() {
         if let Some(row) = u.rows.get(number).copied() {
-            enter(c, row.package, row.file);
-            match row.form {
-                UnitForm::Var(Some(_), Some(e)) => {
-                    initialise(c, u, row, e)?;
-                    bodies(c, e)?;
-                }
-                UnitForm::Var(None, Some(e)) => bodies(c, e)?,
-                _ => {}
+            if let UnitForm::Var(Some(_), Some(e)) = row.form {
+                enter(c, row.package, row.file);
+                initialise(c, u, row, e)?;
             }
         }
     }
     Ok(())
 }
 
-/// The bodies of functions and methods.
-pub fn functions(c: &mut Checker, u: &Units<'_>, from: usize) -> Result<(), NoMemory> {
-    for number in from..u.bodies.len() {
+/// The functions and methods with their bodies, and the function literals of initialisers.
+pub fn functions<'a>(c: &mut Checker, u: &Units<'a>) -> Result<Vec<BodyRow<'a>>, NoMemory> {
+    let mut rows: Vec<BodyRow<'a>> = Vec::new(c.alloc);
+    for number in 0..u.bodies.len() {
         if let Some(row) = u.bodies.get(number).copied() {
-            enter(c, row.package, row.file);
-            let receiver = match (row.receiver, c.func(row.func)) {
-                (Some(list), Some(func)) => Some((
-                    list,
-                    func.receiver.unwrap_or(go_check_state::NONE),
-                )),
-                _ => None,
-            };
-            function_body(c, row.func, receiver, row.sig, row.block)?;
+            rows.push(row)?;
         }
     }
-    Ok(())
+    for number in 0..u.rows.len() {
+        if let Some(row) = u.rows.get(number).copied() {
+            if let UnitForm::Var(_, Some(e)) = row.form {
+                literals_of(c, &mut rows, e)?;
+            }
+        }
+    }
+    Ok(rows)
+}
+
+fn literals_of<'a>(c: &Checker, rows: &mut Vec<BodyRow<'a>>, e: &'a Expr) -> Result<(), NoMemory> {
+    let mut literals = Literals {
+        rows: Vec::new(c.alloc),
+    };
+    in_expr(&mut literals, e)?;
+    add_literals(c, rows, &literals)
 }
 
 /// F51 at an embedded `*T` where T is a pointer or interface type. Go, "Struct types".

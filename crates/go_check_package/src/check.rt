@@ -4,112 +4,75 @@ use crate::bodies::{embedded_pointers, functions, initialisers};
 use crate::collect::collect;
 use crate::cycles::tell_cycles;
 use crate::imports::{ImportRow, import, tell_unused};
+use crate::order::{Imports, imports};
 use crate::resolve::{enter, resolve};
 use crate::unit::{UnitForm, Units};
 use gj_base::{NoMemory, Text};
-use go_check_state::state::FaultRow;
-use go_check_state::{Checker, NameId};
+use go_check_state::state::{Colour, FaultRow};
+use go_check_state::{Checker, Entity};
+use go_check_stmt::bodies;
 use go_syntax::tree::File;
-use std::alloc::Global;
 
-/// A package: its path, its name, and whether it is that of the compiler's own functions.
-#[derive(Debug, Drop)]
-pub struct PackageRow {
-    pub path: Text,
-    pub name: Text,
-    pub host: bool,
+/// A package: its path and its name.
+#[derive(Clone, Copy)]
+pub struct PackageRow<'a> {
+    pub path: &'a Text,
+    pub name: &'a Text,
 }
 
-/// A file of a package, by the package's number and its own, and where it stands among files when the
-/// least fault is sought.
+/// A file of a package, by the package's number and its own. The files of a package stand together.
 #[derive(Clone, Copy)]
 pub struct FileRow<'a> {
     pub package: u32,
     pub number: u32,
-    pub rank: u32,
     pub tree: &'a File,
 }
 
-// The package with a path, and its name.
-fn package_at(
-    c: &mut Checker,
-    packages: &[PackageRow],
-    path: &Text,
-) -> Result<Option<(u32, NameId)>, NoMemory> {
-    for number in 1..packages.len() {
-        if let Some(row) = packages.get(number) {
-            if row.path == *path {
-                let name = c.names.intern(row.name.as_bytes())?;
-                return Ok(Some((number as u32, name)));
-            }
-        }
-    }
-    Ok(None)
-}
-
-// Whether all packages that a package imports are done.
-fn is_ready(packages: &[PackageRow], files: &[FileRow<'_>], done: &Vec<bool>, number: u32) -> bool {
-    for file in files {
-        if file.package == number {
-            for import in &file.tree.imports {
-                if waits_for(packages, done, &import.path) {
-                    return false;
-                }
-            }
-        }
-    }
-    true
-}
-
-fn waits_for(packages: &[PackageRow], done: &Vec<bool>, path: &Text) -> bool {
-    for number in 1..packages.len() {
-        if let Some(row) = packages.get(number) {
-            if row.path == *path {
-                return !done.get(number).copied().unwrap_or(true);
-            }
-        }
-    }
-    false
-}
-
 /// Checks all packages, those that others import first. The checker then holds their core and faults.
+/// Answers which package imports which.
 pub fn check(
-    alloc: Global,
-    packages: &[PackageRow],
+    c: &mut Checker,
+    packages: &[PackageRow<'_>],
     files: &[FileRow<'_>],
-) -> Result<(Checker, Option<FaultRow>), NoMemory> {
-    let mut c = Checker::new(alloc)?;
-    c.predeclare_all()?;
-    let mut done: Vec<bool> = Vec::new(alloc);
-    for row in packages {
-        let path = c.names.intern(row.path.as_bytes())?;
-        c.paths.push(path)?;
-        done.push(false)?;
-    }
-    for _ in 0..packages.len() {
-        for number in 0..packages.len() {
-            if !done[number] && is_ready(packages, files, &done, number as u32) {
-                package(&mut c, packages, files, number as u32)?;
-                done[number] = true;
-            }
+) -> Result<Vec<(u32, u32)>, NoMemory> {
+    let i = imports(c, packages, files)?;
+    let mut starts: Vec<usize> = Vec::new(c.alloc);
+    let mut at = 0usize;
+    for file in files {
+        for _ in starts.len()..(file.package as usize).saturating_add(1) {
+            starts.push(at)?;
         }
+        at = at.saturating_add(1);
     }
-    let least = least(&c, files);
-    Ok((c, least))
+    for number in i.order.iter() {
+        let start = starts.get(*number as usize).copied().unwrap_or(at);
+        let own = files_of(files, *number, start);
+        package(c, packages, &i, *number, own)?;
+    }
+    c.tell_unused()?;
+    Ok(i.edges)
+}
+
+// The files of a package, from its first one on.
+fn files_of<'a, 'b>(files: &'b [FileRow<'a>], number: u32, start: usize) -> &'b [FileRow<'a>] {
+    let mut end = start;
+    for file in files.iter().skip(start) {
+        if file.package != number {
+            break;
+        }
+        end = end.saturating_add(1);
+    }
+    files.get(start..end).unwrap_or(&[])
 }
 
 // One package, whose imports are done.
 fn package(
     c: &mut Checker,
-    packages: &[PackageRow],
-    files: &[FileRow<'_>],
+    packages: &[PackageRow<'_>],
+    i: &Imports,
     number: u32,
+    files: &[FileRow<'_>],
 ) -> Result<(), NoMemory> {
-    if let Some(row) = packages.get(number as usize) {
-        if row.host {
-            return c.declare_host(number);
-        }
-    }
     let mut u = Units {
         rows: Vec::new(c.alloc),
         names: Vec::new(c.alloc),
@@ -118,30 +81,53 @@ fn package(
     };
     c.units.clear();
     for file in files {
-        if file.package == number {
-            enter(c, number, file.number);
-            collect(c, &mut u, file.tree)?;
-        }
+        enter(c, number, file.number);
+        collect(c, &mut u, file.tree)?;
     }
-    let mut imports: Vec<ImportRow> = Vec::new(c.alloc);
-    for file in files {
-        if file.package == number {
-            enter(c, number, file.number);
-            for row in &file.tree.imports {
-                let found = package_at(c, packages, &row.path)?;
-                import(c, &mut imports, file.number, row, found)?;
-            }
-        }
-    }
+    let rows = import_all(c, packages, i, number, files)?;
     resolve_all(c, &mut u)?;
     tell_cycles(c, &u)?;
     embedded_pointers(c)?;
-    initialisers(c, &u, 0)?;
-    functions(c, &u, 0)?;
+    initialisers(c, &u)?;
+    let list = functions(c, &u)?;
+    bodies(c, list)?;
     embedded_pointers(c)?;
-    tell_unused(c, &imports)?;
-    c.tell_unused()?;
+    tell_unused(c, &rows)?;
     finish(c, &u)
+}
+
+// The imports of a package's files.
+fn import_all(
+    c: &mut Checker,
+    packages: &[PackageRow<'_>],
+    i: &Imports,
+    number: u32,
+    files: &[FileRow<'_>],
+) -> Result<Vec<ImportRow>, NoMemory> {
+    let mut rows: Vec<ImportRow> = Vec::new(c.alloc);
+    for file in files {
+        enter(c, number, file.number);
+        for row in &file.tree.imports {
+            let found = match i.find(c, row.path.as_bytes())? {
+                Some(to) => Some((to, name_of(c, packages, to)?)),
+                None => None,
+            };
+            import(c, &mut rows, file.number, row, found)?;
+        }
+    }
+    Ok(rows)
+}
+
+// The name of a package; that of the compiler's own functions is `host`.
+fn name_of(
+    c: &mut Checker,
+    packages: &[PackageRow<'_>],
+    number: u32,
+) -> Result<go_check_state::NameId, NoMemory> {
+    match packages.get(number as usize) {
+        Some(row) => c.names.intern(row.name.as_bytes()),
+        None => c.names.intern(b"host"),
+    }
 }
 
 // Types first, then methods, then all else.
@@ -171,16 +157,12 @@ fn finish(c: &mut Checker, u: &Units<'_>) -> Result<(), NoMemory> {
     for name in u.names.iter() {
         if let Some(id) = name.object {
             if (id as usize) < c.objects.len() {
-                let unit = c.objects[id as usize].unit;
-                let typed = match unit {
-                    Some(unit) => {
-                        c.units.get(unit as usize).copied()
-                            == Some(go_check_state::state::Colour::Done)
-                    }
+                let typed = match c.objects[id as usize].unit {
+                    Some(unit) => c.units.get(unit as usize).copied() == Some(Colour::Done),
                     None => true,
                 };
                 if !typed {
-                    c.objects[id as usize].entity = go_check_state::Entity::Unknown;
+                    c.objects[id as usize].entity = Entity::Unknown;
                 }
                 c.objects[id as usize].unit = None;
             }
@@ -192,33 +174,47 @@ fn finish(c: &mut Checker, u: &Units<'_>) -> Result<(), NoMemory> {
     Ok(())
 }
 
-fn rank_of(files: &[FileRow<'_>], number: u32) -> u32 {
-    for file in files {
-        if file.number == number {
-            return file.rank;
+// A fault is less by package, the root's path being `main`, by file, by offset and by number.
+fn is_less(c: &Checker, packages: &Vec<u32>, a: FaultRow, b: FaultRow) -> bool {
+    if a.place.file != b.place.file {
+        let x = packages.get(a.place.file as usize).copied().unwrap_or(0);
+        let y = packages.get(b.place.file as usize).copied().unwrap_or(0);
+        if x != y {
+            return path_of(c, x) < path_of(c, y);
         }
+        return a.place.file < b.place.file;
     }
-    u32::MAX
+    a.place.offset < b.place.offset
+        || a.place.offset == b.place.offset && a.code.number() < b.code.number()
+}
+
+fn path_of(c: &Checker, package: u32) -> &[u8] {
+    if package == 0 {
+        return b"main";
+    }
+    match c.paths.get(package as usize) {
+        Some(path) => c.names.text(*path).as_bytes(),
+        None => b"",
+    }
 }
 
 /// The least fault: by package, file name, offset and number.
-pub fn least(c: &Checker, files: &[FileRow<'_>]) -> Option<FaultRow> {
-    let mut best: Option<(u32, FaultRow)> = None;
-    for row in c.faults.iter() {
-        let rank = rank_of(files, row.place.file);
-        let better = match best {
-            None => true,
-            Some((other, least)) => {
-                rank < other
-                    || rank == other
-                        && (row.place.offset < least.place.offset
-                            || row.place.offset == least.place.offset
-                                && row.code.number() < least.code.number())
-            }
-        };
-        if better {
-            best = Some((rank, *row));
+pub fn least(c: &Checker, files: &[FileRow<'_>]) -> Result<Option<FaultRow>, NoMemory> {
+    let mut packages: Vec<u32> = Vec::new(c.alloc);
+    for file in files {
+        for _ in packages.len()..(file.number as usize).saturating_add(1) {
+            packages.push(file.package)?;
         }
     }
-    best.map(|(_, row)| row)
+    let mut best: Option<FaultRow> = None;
+    for row in c.faults.iter() {
+        let better = match best {
+            None => true,
+            Some(least) => is_less(c, &packages, *row, least),
+        };
+        if better {
+            best = Some(*row);
+        }
+    }
+    Ok(best)
 }

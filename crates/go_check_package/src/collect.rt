@@ -1,10 +1,11 @@
 //! The declarations of a file, each name in its package's scope. Go, "Declarations and scope".
 
-use crate::unit::{BodyRow, Unit, UnitForm, UnitName, Units};
+use crate::unit::{Unit, UnitForm, UnitName, Units};
 use gj_base::{NoMemory, Place};
 use go_check_state::node::Span;
 use go_check_state::state::{Colour, FuncRow, GlobalRow};
 use go_check_state::{BLANK, Checker, Entity, FaultCode, INIT, MAIN, NO_OBJECT, NONE, NameId};
+use go_check_stmt::BodyRow;
 use go_check_stmt::local::{counts_match, repeated};
 use go_syntax::tree::{
     Block, Decl, DeclForm, File, Name, Params, Results, Sig, TypeSpec, ValueSpec,
@@ -154,7 +155,12 @@ fn type_spec<'a>(c: &mut Checker, u: &mut Units<'a>, spec: &'a TypeSpec) -> Resu
     add_unit(c, u, UnitForm::Type(spec), 1, 0)
 }
 
-fn add_global(c: &mut Checker, name: NameId, place: Place, first: u32) -> Result<u32, NoMemory> {
+fn add_global(
+    c: &mut Checker,
+    name: NameId,
+    place: Place,
+    first: Option<u32>,
+) -> Result<u32, NoMemory> {
     let id = c.globals.len();
     if id >= u32::MAX as usize {
         return Err(NoMemory);
@@ -166,7 +172,7 @@ fn add_global(c: &mut Checker, name: NameId, place: Place, first: u32) -> Result
         ty: NONE,
         place,
         initialiser: None,
-        first,
+        first: first.unwrap_or(id as u32),
     })?;
     Ok(id as u32)
 }
@@ -178,9 +184,11 @@ fn var_spec<'a>(c: &mut Checker, u: &mut Units<'a>, spec: &'a ValueSpec) -> Resu
     }
     if several {
         let unit = next_unit(c)?;
+        let mut first: Option<u32> = None;
         for name in &spec.names {
             let id = c.names.intern(name.text.as_bytes())?;
-            let global = add_global(c, id, name.place, unit)?;
+            let global = add_global(c, id, name.place, first)?;
+            first = Some(first.unwrap_or(global));
             add_name(c, u, name, unit, Entity::Unknown, global)?;
         }
         let form = UnitForm::Var(spec.ty.as_ref(), spec.values.first());
@@ -190,7 +198,7 @@ fn var_spec<'a>(c: &mut Checker, u: &mut Units<'a>, spec: &'a ValueSpec) -> Resu
         if let Some(name) = spec.names.get(number) {
             let unit = next_unit(c)?;
             let id = c.names.intern(name.text.as_bytes())?;
-            let global = add_global(c, id, name.place, unit)?;
+            let global = add_global(c, id, name.place, None)?;
             add_name(c, u, name, unit, Entity::Unknown, global)?;
             let form = UnitForm::Var(spec.ty.as_ref(), spec.values.get(number));
             add_unit(c, u, form, 1, 0)?;
@@ -232,8 +240,6 @@ fn add_body<'a>(
     })?;
     u.bodies.push(BodyRow {
         func: func.0,
-        package,
-        file: c.file,
         receiver,
         sig,
         block,

@@ -3,7 +3,7 @@
 use gj_base::{NoMemory, Place};
 use go_check_expr::signature;
 use go_check_state::state::MethodEntry;
-use go_check_state::{BLANK, Checker, Entity, FaultCode, NameId, Shape};
+use go_check_state::{BLANK, Checker, FaultCode, NameId, Shape};
 use go_syntax::tree::{Expr, ExprForm, Name, Params, Prefix, Sig};
 use go_type::types::{NamedId, TypeId};
 
@@ -102,7 +102,7 @@ pub fn method(
     if is_taken(c, named, id) {
         return c.fault_of(FaultCode::Duplicate, name.place, id);
     }
-    add(c, named, id, pointer, t, func, name.place)
+    add_method(c, named, id, pointer, t, func, name.place)
 }
 
 // What needs a method that isn't typed has no fault of its own.
@@ -132,7 +132,8 @@ fn is_taken(c: &Checker, named: TypeId, name: NameId) -> bool {
     false
 }
 
-fn add(
+/// Adds a method to a named type.
+pub fn add_method(
     c: &mut Checker,
     named: TypeId,
     name: NameId,
@@ -152,7 +153,6 @@ fn add(
         func,
         place,
     })?;
-    let _ = Entity::Unknown;
     let text = c.names.copy(name)?;
     let Some(row) = c.sig_copy(sig)? else {
         return Ok(());

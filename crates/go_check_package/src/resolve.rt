@@ -4,16 +4,16 @@
 //! back, and that one is tried first. A declaration that waits for itself is stuck.
 
 use crate::methods::method;
+use crate::several::several_values;
 use crate::unit::{Unit, UnitForm, UnitName, Units};
 use gj_base::NoMemory;
-use go_check_expr::calls::results_of;
 use go_check_expr::expr::expr;
 use go_check_expr::{signature, type_expr};
-use go_check_operand::assignment::{assignment, default_value};
+use go_check_operand::assignment::default_value;
 use go_check_state::state::Colour;
-use go_check_state::{Checker, Entity, FaultCode, NONE, Operand, Shape};
-use go_check_stmt::assign::values_for;
+use go_check_state::{Checker, Entity, FaultCode, NO_OBJECT, NONE, Operand};
 use go_check_stmt::local::const_entity;
+use go_check_stmt::sides::{Sides, as_type, sides};
 use go_syntax::tree::{Expr, Sig, TypeSpec};
 use go_type::types::TypeId;
 
@@ -21,6 +21,8 @@ use go_type::types::TypeId;
 pub fn enter(c: &mut Checker, package: u32, file: u32) {
     c.package = package;
     c.file = file;
+    c.head = NO_OBJECT;
+    c.current = None;
 }
 
 fn colour(c: &Checker, unit: u32) -> Colour {
@@ -205,38 +207,40 @@ fn try_var(
 ) -> Result<(), NoMemory> {
     let Some(e) = value else { return Ok(()) };
     let x = expr(c, e)?;
-    let values = initial_values(c, u, row, x)?;
+    let sides = initial_values(c, u, row, x)?;
+    let mut values: Vec<Operand> = Vec::new(c.alloc);
     for number in 0..row.len {
         if let Some(name) = u.names.get(row.start.saturating_add(number)).copied() {
-            let x = match values.get(number).copied() {
+            let x = match sides.values.get(number).copied() {
                 Some(x) => default_value(c, x)?,
                 None => c.unknown(name.place)?,
             };
             set_global(c, name, x.ty);
-            if number == 0 && (name.global as usize) < c.globals.len() {
-                c.globals[name.global as usize].initialiser = Some(x.node);
-            }
+            values.push(x)?;
         }
     }
-    Ok(())
+    set_initialiser(c, u, row, &sides, &values)
 }
 
-/// The values of an initialiser, one for each name: F84 where the counts differ.
-pub fn initial_values(
+// The values of an initialiser, one for each name: F84 where the counts differ.
+fn initial_values(
     c: &mut Checker,
     u: &Units<'_>,
     row: Unit<'_>,
     x: Operand,
-) -> Result<Vec<Operand>, NoMemory> {
+) -> Result<Sides, NoMemory> {
     let mut one: Vec<Operand> = Vec::new(c.alloc);
     one.push(x)?;
-    match values_for(c, one, row.len)? {
-        Some(values) => Ok(values),
+    match sides(c, one, row.len)? {
+        Some(sides) => Ok(sides),
         None => {
             if let Some(name) = u.names.get(row.start).copied() {
                 c.fault(FaultCode::CountMismatch, name.place)?;
             }
-            Ok(Vec::new(c.alloc))
+            Ok(Sides {
+                values: Vec::new(c.alloc),
+                results: None,
+            })
         }
     }
 }
@@ -249,20 +253,40 @@ pub fn initialise(
     value: &Expr,
 ) -> Result<(), NoMemory> {
     let x = expr(c, value)?;
-    let values = initial_values(c, u, row, x)?;
-    for number in 0..values.len() {
+    let sides = initial_values(c, u, row, x)?;
+    let mut values: Vec<Operand> = Vec::new(c.alloc);
+    for number in 0..sides.values.len() {
         if let (Some(x), Some(name)) = (
-            values.get(number).copied(),
+            sides.values.get(number).copied(),
             u.names.get(row.start.saturating_add(number)).copied(),
         ) {
             if let Some(global) = c.globals.get(name.global as usize).copied() {
-                let x = assignment(c, x, global.ty)?;
-                if number == 0 {
-                    c.globals[name.global as usize].initialiser = Some(x.node);
-                }
+                values.push(as_type(c, x, global.ty)?)?;
             }
         }
     }
-    let _ = (Shape::Unknown, results_of(c, x, 0)?.0.len());
+    set_initialiser(c, u, row, &sides, &values)
+}
+
+// The first of the names alone has the initialiser, which gives a value for each.
+fn set_initialiser(
+    c: &mut Checker,
+    u: &Units<'_>,
+    row: Unit<'_>,
+    sides: &Sides,
+    values: &Vec<Operand>,
+) -> Result<(), NoMemory> {
+    let Some(name) = u.names.get(row.start).copied() else {
+        return Ok(());
+    };
+    if !c.blockers.is_empty() || (name.global as usize) >= c.globals.len() {
+        return Ok(());
+    }
+    let node = match values.first().copied() {
+        Some(x) if values.len() == 1 && sides.results.is_none() => Some(x.node),
+        Some(_) => several_values(c, name.place, sides, values)?,
+        None => None,
+    };
+    c.globals[name.global as usize].initialiser = node;
     Ok(())
 }

@@ -2,7 +2,8 @@
 
 use gj_base::Place;
 use go_check_state::NameId;
-use go_syntax::tree::{Block, Expr, Name, Params, Sig, TypeSpec};
+use go_check_stmt::BodyRow;
+use go_syntax::tree::{Expr, Name, Params, Sig, TypeSpec};
 
 /// What a declaration is.
 #[derive(Clone, Copy)]
@@ -34,17 +35,6 @@ pub struct UnitName {
     pub place: Place,
     pub object: Option<u32>,
     pub global: u32,
-}
-
-/// A function with its body.
-#[derive(Clone, Copy)]
-pub struct BodyRow<'a> {
-    pub func: u32,
-    pub package: u32,
-    pub file: u32,
-    pub receiver: Option<&'a Params>,
-    pub sig: &'a Sig,
-    pub block: &'a Block,
 }
 
 /// All declarations, and what attempts found that one needs of others.

@@ -1,125 +1,46 @@
-//! Assignments and short variable declarations. Go, "Assignments", "Short variable declarations".
+//! Assignments and short variable declarations. Go, "Assignments", "IncDec statements", "Short variable
+//! declarations".
 
-use crate::body::whole;
-use crate::frame::Frame;
+use crate::hold::{declare, hold, hold_place, nothing, sequence, store_one};
+use crate::sides::{Left, Sides, assigned, converted, right_sides, store_sides};
 use gj_base::{NoMemory, Op, Place};
-use go_check_expr::calls::results_of;
-use go_check_expr::index_row::with_ok;
-use go_check_operand::assignment::{assignment, default_value};
+use go_check_expr::expr::expr;
+use go_check_operand::assignment::default_value;
 use go_check_operand::binary::binary;
-use go_check_state::node::{Node, NodeId, PlaceNode, StmtId, StmtNode, Target, VarRef};
-use go_check_state::{BLANK, Checker, EMPTY, Entity, FaultCode, Mode, NONE, Operand, Shape};
+use go_check_state::node::{Node, PlaceNode, StmtId, Target, VarRef};
+use go_check_state::{BLANK, Checker, Entity, FaultCode, Mode, NONE, NameId, Operand};
 use go_const::Const;
 use go_syntax::tree::{Expr, ExprForm};
 use go_type::predeclared::untyped_id;
 use go_type::types::{Basis, TypeId};
 
-/// Nothing at all.
-pub fn nothing(c: &mut Checker) -> Result<StmtId, NoMemory> {
-    let none = c.nodes.list(&[])?;
-    c.nodes.stmt(StmtNode::Seq(none))
-}
+/// `_`: any value goes there.
+pub const NOWHERE: Left = Left {
+    target: Target::Blank,
+    ty: NONE,
+    blank: true,
+};
 
-/// Expressions, each with the bodies of its literals.
-pub fn wholes(c: &mut Checker, list: &Vec<Expr>) -> Result<Vec<Operand>, NoMemory> {
-    let mut out = Vec::new(c.alloc);
-    for e in list {
-        out.push(whole(c, e)?)?;
-    }
-    Ok(out)
-}
+/// What no value can go to.
+pub const NOT_THERE: Left = Left {
+    target: Target::Blank,
+    ty: NONE,
+    blank: false,
+};
 
-/// The values of the right sides, as many as are wanted: the results of one call, or a value with its
-/// second result. None where the counts differ.
-pub fn right_sides(
-    c: &mut Checker,
-    list: &Vec<Expr>,
-    count: usize,
-) -> Result<Option<Vec<Operand>>, NoMemory> {
-    let values = wholes(c, list)?;
-    values_for(c, values, count)
-}
-
-/// The same of operands.
-pub fn values_for(
-    c: &mut Checker,
-    values: Vec<Operand>,
-    count: usize,
-) -> Result<Option<Vec<Operand>>, NoMemory> {
-    let Some(x) = values.first().copied() else {
-        return Ok(None);
-    };
-    if values.len() == 1 {
-        if let Shape::Tuple(results) = c.level(x.ty) {
-            if results != count {
-                return Ok(None);
-            }
-            return Ok(Some(results_of(c, x, results)?.0));
-        }
-        if count == 2 {
-            return pair(c, x);
-        }
-        if x.is_unknown() && count > 1 {
-            return unknowns(c, x.place, count);
-        }
-    }
-    if values.len() != count || has_tuple(c, &values) {
-        return Ok(None);
-    }
-    Ok(Some(values))
-}
-
-fn has_tuple(c: &Checker, values: &Vec<Operand>) -> bool {
-    values.len() == 1
-        && values.iter().any(|x| match x.mode {
-            Mode::NoValue => false,
-            _ => match c.level(x.ty) {
-                Shape::Tuple(_) => true,
-                _ => false,
-            },
-        })
-}
-
-fn unknowns(c: &mut Checker, place: Place, count: usize) -> Result<Option<Vec<Operand>>, NoMemory> {
-    let mut out = Vec::new(c.alloc);
-    for _ in 0..count {
-        out.push(c.unknown(place)?)?;
-    }
-    Ok(Some(out))
-}
-
-// A value and whether it is there.
-fn pair(c: &mut Checker, x: Operand) -> Result<Option<Vec<Operand>>, NoMemory> {
-    if x.is_unknown() {
-        return unknowns(c, x.place, 2);
-    }
-    let is_pair = match x.mode {
-        Mode::CommaOk | Mode::MapEntry(_, _) => true,
+/// Whether an expression is `_`.
+pub fn is_blank(e: &Expr) -> bool {
+    match &*e.form {
+        ExprForm::Name(text) => text.as_bytes() == b"_".as_slice(),
+        ExprForm::Paren(x) => is_blank(x),
         _ => false,
-    };
-    if !is_pair {
-        return Ok(None);
     }
-    let Some(node) = with_ok(c, x)? else {
-        return Ok(None);
-    };
-    let mut out = Vec::new(c.alloc);
-    out.push(Operand {
-        mode: Mode::Value,
-        node,
-        ..x
-    })?;
-    let ty = untyped_id(Basis::Bool);
-    let var = c.fresh(EMPTY, x.place, go_type::predeclared::BOOL)?;
-    let at = c.nodes.place(PlaceNode::Local(var))?;
-    out.push(c.value(x.place, ty, Node::Read { ty, place: at })?)?;
-    Ok(Some(out))
 }
 
 /// A left side. An occurrence that is a whole left side is no use.
-pub fn left_side(c: &mut Checker, e: &Expr) -> Result<(Target, TypeId), NoMemory> {
+pub fn left_side(c: &mut Checker, e: &Expr) -> Result<Left, NoMemory> {
     if is_blank(e) {
-        return Ok((Target::Blank, NONE));
+        return Ok(NOWHERE);
     }
     let object = whole_name(c, e)?;
     let used = match object {
@@ -129,22 +50,13 @@ pub fn left_side(c: &mut Checker, e: &Expr) -> Result<(Target, TypeId), NoMemory
         },
         None => false,
     };
-    let x = whole(c, e)?;
+    let x = expr(c, e)?;
     if let Some(id) = object {
         if (id as usize) < c.objects.len() {
             c.objects[id as usize].used = used;
         }
     }
     target(c, x)
-}
-
-/// Whether an expression is `_`.
-pub fn is_blank(e: &Expr) -> bool {
-    match &*e.form {
-        ExprForm::Name(text) => text.as_bytes() == b"_".as_slice(),
-        ExprForm::Paren(x) => is_blank(x),
-        _ => false,
-    }
 }
 
 // The local variable that an expression is a whole name of.
@@ -166,50 +78,34 @@ fn whole_name(c: &mut Checker, e: &Expr) -> Result<Option<u32>, NoMemory> {
 }
 
 // What an operand is as a left side: F85 where it can't be assigned.
-fn target(c: &mut Checker, x: Operand) -> Result<(Target, TypeId), NoMemory> {
+fn target(c: &mut Checker, x: Operand) -> Result<Left, NoMemory> {
     match x.mode {
-        Mode::Unknown => Ok((Target::Blank, NONE)),
-        Mode::Variable(place) => Ok((Target::Place { ty: x.ty, place }, x.ty)),
+        Mode::Unknown => Ok(NOT_THERE),
+        Mode::Variable(place) => Ok(Left {
+            target: Target::Place { ty: x.ty, place },
+            ty: x.ty,
+            blank: false,
+        }),
         Mode::MapEntry(operand, key) => {
             let map_type = match c.nodes.get(x.node) {
                 Node::MapGet { map_type, .. } => map_type,
                 _ => NONE,
             };
-            Ok((
-                Target::Entry {
+            Ok(Left {
+                target: Target::Entry {
                     map_type,
                     operand,
                     key,
                 },
-                x.ty,
-            ))
+                ty: x.ty,
+                blank: false,
+            })
         }
         _ => {
             c.fault(FaultCode::CannotAssign, x.place)?;
-            Ok((Target::Blank, NONE))
+            Ok(NOT_THERE)
         }
     }
-}
-
-/// One value to a left side of a type; to `_` goes any typed value.
-pub fn assigned(
-    c: &mut Checker,
-    x: Operand,
-    target: Target,
-    t: TypeId,
-) -> Result<NodeId, NoMemory> {
-    let x = match target {
-        Target::Blank if !c.has(t) => default_value(c, x)?,
-        _ => assignment(c, x, t)?,
-    };
-    Ok(x.node)
-}
-
-/// The statement that stores the values.
-pub fn store(c: &mut Checker, targets: &Vec<u32>, values: &Vec<u32>) -> Result<StmtId, NoMemory> {
-    let targets = c.nodes.list(targets.as_slice())?;
-    let values = c.nodes.list(values.as_slice())?;
-    c.nodes.stmt(StmtNode::Store { targets, values })
 }
 
 /// `x, y = z, w`: F84 where the counts differ.
@@ -219,30 +115,16 @@ pub fn assign(
     left: &Vec<Expr>,
     right: &Vec<Expr>,
 ) -> Result<StmtId, NoMemory> {
-    let mut targets: Vec<u32> = Vec::new(c.alloc);
-    let mut types: Vec<(Target, TypeId, bool)> = Vec::new(c.alloc);
+    let mut lefts: Vec<Left> = Vec::new(c.alloc);
     for e in left {
-        let blank = is_blank(e);
-        let (target, t) = left_side(c, e)?;
-        targets.push(c.nodes.target(target)?)?;
-        types.push((target, t, blank))?;
+        lefts.push(left_side(c, e)?)?;
     }
-    let Some(values) = right_sides(c, right, left.len())? else {
+    let Some(sides) = right_sides(c, right, left.len())? else {
         c.fault(FaultCode::CountMismatch, place)?;
         return nothing(c);
     };
-    let mut nodes: Vec<u32> = Vec::new(c.alloc);
-    for number in 0..values.len() {
-        if let (Some(x), Some((target, t, blank))) = (
-            values.get(number).copied(),
-            types.get(number).copied(),
-        ) {
-            if blank || c.has(t) {
-                nodes.push(assigned(c, x, target, t)?.0)?;
-            }
-        }
-    }
-    store(c, &targets, &nodes)
+    let values = converted(c, &sides, &lefts)?;
+    store_sides(c, Vec::new(c.alloc), &sides, &lefts, &values)
 }
 
 // F84 where a statement that takes one expression has several.
@@ -268,26 +150,63 @@ pub fn assign_op(
     let (Some(e), Some(r)) = (only(c, place, left)?, only(c, place, right)?) else {
         return nothing(c);
     };
-    let x = whole(c, e)?;
-    let y = whole(c, r)?;
+    let x = expr(c, e)?;
+    let y = expr(c, r)?;
     update(c, x, op, y)
+}
+
+// Whether nothing runs when an operand is evaluated.
+fn is_quiet(y: Operand) -> bool {
+    y.constant().is_some()
+}
+
+// A left side whose operands are evaluated once, as an operand that reads it.
+fn held(
+    c: &mut Checker,
+    parts: &mut Vec<u32>,
+    x: Operand,
+    quiet: bool,
+) -> Result<Operand, NoMemory> {
+    match x.mode {
+        Mode::Variable(place) => {
+            let place = hold_place(c, parts, place, quiet)?;
+            let node = Node::Read { ty: x.ty, place };
+            c.operand(Mode::Variable(place), x.place, x.ty, node)
+        }
+        Mode::MapEntry(operand, key) => {
+            let operand = hold(c, parts, operand, quiet)?;
+            let key = hold(c, parts, key, quiet)?;
+            let map_type = match c.nodes.get(x.node) {
+                Node::MapGet { map_type, .. } => map_type,
+                _ => NONE,
+            };
+            let node = Node::MapGet {
+                map_type,
+                with_ok: false,
+                operand,
+                key,
+            };
+            c.operand(Mode::MapEntry(operand, key), x.place, x.ty, node)
+        }
+        _ => Ok(x),
+    }
 }
 
 // The value of the operator goes back to the left side.
 fn update(c: &mut Checker, x: Operand, op: Op, y: Operand) -> Result<StmtId, NoMemory> {
+    let mut parts: Vec<u32> = Vec::new(c.alloc);
+    let x = held(c, &mut parts, x, is_quiet(y))?;
     let z = binary(c, x.place, op, x, y)?;
     if z.is_unknown() {
         return nothing(c);
     }
-    let (target, t) = target(c, x)?;
-    if !c.has(t) {
+    let left = target(c, x)?;
+    if !c.has(left.ty) {
         return nothing(c);
     }
-    let node = assigned(c, z, target, t)?;
-    let number = c.nodes.target(target)?;
-    let targets = c.nodes.list(&[number])?;
-    let values = c.nodes.list(&[node.0])?;
-    c.nodes.stmt(StmtNode::Store { targets, values })
+    let z = assigned(c, z, left)?;
+    parts.push(store_one(c, left.target, z.node)?.0)?;
+    sequence(c, &parts)
 }
 
 /// `x++` or `x--`. Go, "IncDec statements".
@@ -300,23 +219,23 @@ pub fn inc_dec(
     let Some(e) = only(c, place, list)? else {
         return nothing(c);
     };
-    let x = whole(c, e)?;
+    let x = expr(c, e)?;
     let one = c.add_const(Const::Int(1))?;
     let y = c.constant_operand(x.place, untyped_id(Basis::Int), one)?;
     update(c, x, if up { Op::Add } else { Op::Sub }, y)
 }
 
-/// A name on the left of `:=`, with what it stands for: a variable of the innermost block, or nothing yet.
+/// A name on the left of `:=`, with the object of the innermost block that has it.
 #[derive(Clone, Copy, Debug)]
-struct Left {
-    name: go_check_state::NameId,
+struct LeftName {
+    name: NameId,
     place: Place,
     old: Option<u32>,
 }
 
 // F83 at a left side that is no name, F82 at a name that was there.
-fn left_names(c: &mut Checker, left: &Vec<Expr>) -> Result<Option<Vec<Left>>, NoMemory> {
-    let mut out: Vec<Left> = Vec::new(c.alloc);
+fn left_names(c: &mut Checker, left: &Vec<Expr>) -> Result<Option<Vec<LeftName>>, NoMemory> {
+    let mut out: Vec<LeftName> = Vec::new(c.alloc);
     let mut good = true;
     for e in left {
         match &*e.form {
@@ -327,14 +246,14 @@ fn left_names(c: &mut Checker, left: &Vec<Expr>) -> Result<Option<Vec<Left>>, No
                     good = false;
                 }
                 let old = c.innermost(name);
-                out.push(Left {
+                out.push(LeftName {
                     name,
                     place: e.place,
                     old,
                 })?;
             }
             _ => {
-                whole(c, e)?;
+                expr(c, e)?;
                 c.fault(FaultCode::BadDefine, e.place)?;
                 good = false;
             }
@@ -346,77 +265,86 @@ fn left_names(c: &mut Checker, left: &Vec<Expr>) -> Result<Option<Vec<Left>>, No
 /// `x, y := z, w`: F83 without a new name.
 pub fn define(
     c: &mut Checker,
-    f: &mut Frame,
     place: Place,
     left: &Vec<Expr>,
     right: &Vec<Expr>,
 ) -> Result<StmtId, NoMemory> {
-    let _ = f.named;
     let names = left_names(c, left)?;
-    let values = right_sides(c, right, left.len())?;
+    let sides = right_sides(c, right, left.len())?;
     let Some(names) = names else {
         return nothing(c);
     };
     if !names.iter().any(|l| l.old.is_none() && l.name != BLANK) {
         c.fault(FaultCode::BadDefine, place)?;
     }
-    if values.is_none() {
-        c.fault(FaultCode::CountMismatch, place)?;
-    }
+    let sides = match sides {
+        Some(sides) => sides,
+        None => {
+            c.fault(FaultCode::CountMismatch, place)?;
+            Sides {
+                values: Vec::new(c.alloc),
+                results: None,
+            }
+        }
+    };
     let mut parts: Vec<u32> = Vec::new(c.alloc);
-    let mut targets: Vec<u32> = Vec::new(c.alloc);
-    let mut nodes: Vec<u32> = Vec::new(c.alloc);
+    let mut lefts: Vec<Left> = Vec::new(c.alloc);
+    let mut values: Vec<Operand> = Vec::new(c.alloc);
     for number in 0..names.len() {
         if let Some(l) = names.get(number).copied() {
-            let x = match &values {
-                Some(values) => values.get(number).copied(),
-                None => None,
+            let x = match sides.values.get(number).copied() {
+                Some(x) => x,
+                None => c.unknown(l.place)?,
             };
-            define_one(c, l, x, &mut parts, &mut targets, &mut nodes)?;
+            define_one(c, l, x, &mut parts, &mut lefts, &mut values)?;
         }
     }
-    parts.push(store(c, &targets, &nodes)?.0)?;
-    let parts = c.nodes.list(parts.as_slice())?;
-    c.nodes.stmt(StmtNode::Seq(parts))
+    store_sides(c, parts, &sides, &lefts, &values)
 }
 
+// A name of the left with its value.
 fn define_one(
     c: &mut Checker,
-    l: Left,
-    x: Option<Operand>,
+    l: LeftName,
+    x: Operand,
     parts: &mut Vec<u32>,
-    targets: &mut Vec<u32>,
-    nodes: &mut Vec<u32>,
+    lefts: &mut Vec<Left>,
+    values: &mut Vec<Operand>,
 ) -> Result<(), NoMemory> {
-    if let Some(id) = l.old {
-        return redefine(c, l, id, x, targets, nodes);
-    }
-    let x = match x {
-        Some(x) => default_value(c, x)?,
-        None => c.unknown(l.place)?,
+    let left = match l.old {
+        Some(id) => old_variable(c, l, id)?,
+        None => NOWHERE,
     };
-    if l.name == BLANK {
-        targets.push(c.nodes.target(Target::Blank)?)?;
-        nodes.push(x.node.0)?;
+    let x = if left.blank {
+        default_value(c, x)?
+    } else {
+        assigned(c, x, left)?
+    };
+    values.push(x)?;
+    if l.old.is_some() || l.name == BLANK {
+        lefts.push(left)?;
         return Ok(());
     }
     let var = new_variable(c, l.name, l.place, x.ty)?;
-    parts.push(c.nodes.stmt(StmtNode::Declare(var))?.0)?;
-    let at = c.nodes.place(PlaceNode::Local(var))?;
-    targets.push(
-        c.nodes.target(Target::Place {
-            ty: x.ty,
-            place: at,
-        })?,
-    )?;
-    nodes.push(x.node.0)?;
+    parts.push(declare(c, var)?.0)?;
+    lefts.push(variable_side(c, var, x.ty)?)?;
     Ok(())
+}
+
+/// A local variable as a left side.
+pub fn variable_side(c: &mut Checker, var: VarRef, ty: TypeId) -> Result<Left, NoMemory> {
+    let place = c.nodes.place(PlaceNode::Local(var))?;
+    Ok(Left {
+        target: Target::Place { ty, place },
+        ty,
+        blank: false,
+    })
 }
 
 /// A new variable of the innermost block, which must be used.
 pub fn new_variable(
     c: &mut Checker,
-    name: go_check_state::NameId,
+    name: NameId,
     place: Place,
     t: TypeId,
 ) -> Result<VarRef, NoMemory> {
@@ -426,29 +354,19 @@ pub fn new_variable(
 }
 
 // A name that is assigned: F85 where it is no variable.
-fn redefine(
-    c: &mut Checker,
-    l: Left,
-    id: u32,
-    x: Option<Operand>,
-    targets: &mut Vec<u32>,
-    nodes: &mut Vec<u32>,
-) -> Result<(), NoMemory> {
-    let Some(x) = x else { return Ok(()) };
-    match c.object(id) {
-        Some(object) => match object.entity {
-            Entity::Local(var, t) => {
-                if c.has(t) {
-                    c.capture(var)?;
-                    let x = assignment(c, x, t)?;
-                    let place = c.nodes.place(PlaceNode::Local(VarRef(var)))?;
-                    targets.push(c.nodes.target(Target::Place { ty: t, place })?)?;
-                    nodes.push(x.node.0)?;
-                }
-                Ok(())
-            }
-            _ => c.fault(FaultCode::CannotAssign, l.place),
-        },
-        None => Ok(()),
+fn old_variable(c: &mut Checker, l: LeftName, id: u32) -> Result<Left, NoMemory> {
+    let Some(object) = c.object(id) else {
+        return Ok(NOT_THERE);
+    };
+    match object.entity {
+        Entity::Local(var, t) if c.has(t) => {
+            c.capture(var)?;
+            variable_side(c, VarRef(var), t)
+        }
+        Entity::Local(_, _) => Ok(NOT_THERE),
+        _ => {
+            c.fault(FaultCode::CannotAssign, l.place)?;
+            Ok(NOT_THERE)
+        }
     }
 }

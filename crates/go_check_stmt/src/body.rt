@@ -2,23 +2,16 @@
 
 use crate::frame::Frame;
 use crate::labels::labels_in;
-use crate::stmt::stmt_list;
+use crate::literals::{Literals, in_stmts};
+use crate::stmt::{NONE_OF_THEM, stmt_list};
 use crate::terminating::ends;
 use gj_base::{NoMemory, Place};
-use go_check_expr::expr::expr;
-use go_check_expr::types::{has_names, param_name};
-use go_check_state::node::{NodeId, VarRef};
+use go_check_state::node::VarRef;
 use go_check_state::state::joined;
-use go_check_state::{BLANK, Checker, EMPTY, Entity, FaultCode, NONE, NameId, Operand, Shape};
-use go_syntax::tree::{Block, Elem, Expr, ExprForm, Params, Results, Sig};
+use go_check_state::{Checker, EMPTY, Entity, FaultCode, FuncRow, NONE, NameId};
+use go_check_type::parameters::{has_names, param_name};
+use go_syntax::tree::{Block, Params, Results, Sig};
 use go_type::types::TypeId;
-
-/// An expression, and the bodies of its function literals in the scope that stands.
-pub fn whole(c: &mut Checker, e: &Expr) -> Result<Operand, NoMemory> {
-    let x = expr(c, e)?;
-    bodies(c, e)?;
-    Ok(x)
-}
 
 fn parameter(
     c: &mut Checker,
@@ -95,11 +88,12 @@ fn declare_results(
 fn declare_receiver(
     c: &mut Checker,
     vars: &mut Vec<u32>,
-    receiver: Option<(&Params, TypeId)>,
+    receiver: Option<&Params>,
+    t: Option<TypeId>,
 ) -> Result<(), NoMemory> {
-    if let Some((list, t)) = receiver {
+    if let Some(list) = receiver {
         let (name, at) = named(c, list, 0, list.place)?;
-        parameter(c, vars, name, at, t)?;
+        parameter(c, vars, name, at, t.unwrap_or(NONE))?;
     }
     Ok(())
 }
@@ -112,92 +106,95 @@ fn returns_nothing(results: &Results) -> bool {
     }
 }
 
-/// The body of a function: F87 at its end where it has results and may run to the end.
-pub fn function_body(
-    c: &mut Checker,
-    func: u32,
-    receiver: Option<(&Params, TypeId)>,
-    sig: &Sig,
-    block: &Block,
+/// A function whose body is to be typed; a literal's stands in the scope of its row.
+#[derive(Clone, Copy)]
+pub struct BodyRow<'a> {
+    pub func: u32,
+    pub receiver: Option<&'a Params>,
+    pub sig: &'a Sig,
+    pub block: &'a Block,
+}
+
+/// The bodies of functions, and of the literals within them.
+pub fn bodies<'a>(c: &mut Checker, rows: Vec<BodyRow<'a>>) -> Result<(), NoMemory> {
+    let mut rest = rows;
+    for _ in 0..u64::MAX {
+        let Some(row) = rest.pop() else {
+            return Ok(());
+        };
+        function_body(c, row)?;
+        let mut literals = Literals {
+            rows: Vec::new(c.alloc),
+        };
+        in_stmts(&mut literals, &row.block.stmts)?;
+        add_literals(c, &mut rest, &literals)?;
+    }
+    Ok(())
+}
+
+/// The bodies of function literals that were typed.
+pub fn add_literals<'a>(
+    c: &Checker,
+    rows: &mut Vec<BodyRow<'a>>,
+    literals: &Literals<'a>,
 ) -> Result<(), NoMemory> {
-    let Some(row) = c.func(func) else {
+    for row in literals.rows.iter() {
+        if let Some(func) = c
+            .literals
+            .get(&joined(row.place.file, row.place.offset))
+            .copied()
+        {
+            rows.push(BodyRow {
+                func,
+                receiver: None,
+                sig: row.sig,
+                block: row.block,
+            })?;
+        }
+    }
+    Ok(())
+}
+
+// Enters the package, the file and the scope of a function.
+fn enter(c: &mut Checker, func: u32, row: FuncRow) {
+    c.package = row.package;
+    c.file = row.place.file;
+    c.head = row.scope;
+    c.current = Some(func);
+}
+
+// The body of a function: F87 at its end where it has results and may run to the end.
+fn function_body(c: &mut Checker, body: BodyRow<'_>) -> Result<(), NoMemory> {
+    let Some(row) = c.func(body.func) else {
         return Ok(());
     };
-    let outer = c.current;
-    c.current = Some(func);
+    enter(c, body.func, row);
     c.open()?;
     let mut f = Frame::new(c.alloc, row.sig);
     let mut vars: Vec<u32> = Vec::new(c.alloc);
-    declare_receiver(c, &mut vars, receiver)?;
-    declare_params(c, &mut vars, row.sig, &sig.params)?;
-    declare_results(c, &mut f, &mut vars, row.sig, &sig.results, block.place)?;
+    let block = body.block;
+    declare_receiver(c, &mut vars, body.receiver, row.receiver)?;
+    declare_params(c, &mut vars, row.sig, &body.sig.params)?;
+    declare_results(
+        c,
+        &mut f,
+        &mut vars,
+        row.sig,
+        &body.sig.results,
+        block.place,
+    )?;
     labels_in(c, &mut f, &block.stmts)?;
-    let body = stmt_list(c, &mut f, &block.stmts)?;
+    let core = stmt_list(c, &mut f, &block.stmts, NONE_OF_THEM)?;
     f.tell_labels(c)?;
     c.close();
-    if !returns_nothing(&sig.results) && !ends(c, &block.stmts) {
+    c.current = None;
+    if !returns_nothing(&body.sig.results) && !ends(c, &block.stmts) {
         c.fault(FaultCode::MissingReturn, block.end)?;
     }
-    c.current = outer;
     let params = c.nodes.list(vars.as_slice())?;
-    if (func as usize) < c.funcs.len() {
-        c.funcs[func as usize].body = Some(body);
-        c.funcs[func as usize].params = params;
-    }
-    let _ = (BLANK, NONE, NodeId(0), Shape::Unknown);
-    Ok(())
-}
-
-fn literal_body(c: &mut Checker, place: Place, sig: &Sig, block: &Block) -> Result<(), NoMemory> {
-    match c.literals.get(&joined(place.file, place.offset)).copied() {
-        Some(func) => function_body(c, func, None, sig, block),
-        None => Ok(()),
-    }
-}
-
-fn all(c: &mut Checker, list: &Vec<Expr>) -> Result<(), NoMemory> {
-    for e in list {
-        bodies(c, e)?;
+    if (body.func as usize) < c.funcs.len() {
+        c.funcs[body.func as usize].body = Some(core);
+        c.funcs[body.func as usize].params = params;
     }
     Ok(())
-}
-
-fn maybe(c: &mut Checker, e: &Option<Expr>) -> Result<(), NoMemory> {
-    match e {
-        Some(e) => bodies(c, e),
-        None => Ok(()),
-    }
-}
-
-fn of_elems(c: &mut Checker, elems: &Vec<Elem>) -> Result<(), NoMemory> {
-    for elem in elems {
-        maybe(c, &elem.key)?;
-        bodies(c, &elem.value)?;
-    }
-    Ok(())
-}
-
-/// The bodies of the function literals of an expression, in text order.
-pub fn bodies(c: &mut Checker, e: &Expr) -> Result<(), NoMemory> {
-    match &*e.form {
-        ExprForm::Func(sig, block) => literal_body(c, e.place, sig, block),
-        ExprForm::Paren(x) | ExprForm::Unary(_, x) | ExprForm::Select(x, _) => bodies(c, x),
-        ExprForm::Assert(x, _) => bodies(c, x),
-        ExprForm::Binary(x, _, y) | ExprForm::Index(x, y) => {
-            bodies(c, x)?;
-            bodies(c, y)
-        }
-        ExprForm::Slice(x, low, high, max) => {
-            bodies(c, x)?;
-            maybe(c, low)?;
-            maybe(c, high)?;
-            maybe(c, max)
-        }
-        ExprForm::Call(f, args, _) => {
-            bodies(c, f)?;
-            all(c, args)
-        }
-        ExprForm::Literal(_, elems) => of_elems(c, elems),
-        _ => Ok(()),
-    }
 }

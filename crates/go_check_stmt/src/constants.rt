@@ -6,7 +6,7 @@ use go_check_expr::type_expr;
 use go_check_operand::assignment::single_value;
 use go_check_operand::untyped::convert_untyped;
 use go_check_state::node::ConstId;
-use go_check_state::{Checker, FaultCode, NONE, Operand, Shape};
+use go_check_state::{Checker, FaultCode, Operand, Shape};
 use go_const::Const;
 use go_syntax::tree::Expr;
 use go_type::types::TypeId;
@@ -64,9 +64,4 @@ fn typed(c: &mut Checker, x: Operand, t: TypeId) -> Result<Operand, NoMemory> {
         return c.fail(FaultCode::NotAssignable, x.place);
     }
     Ok(y)
-}
-
-/// No type.
-pub fn no_type() -> TypeId {
-    NONE
 }

@@ -2,7 +2,7 @@
 
 use gj_base::{NoMemory, Place};
 use go_check_state::node::VarRef;
-use go_check_state::{Checker, FaultCode, NONE, NameId};
+use go_check_state::{Checker, FaultCode, NameId};
 use go_type::types::TypeId;
 use std::alloc::Global;
 
@@ -20,8 +20,6 @@ pub struct TargetRow {
     pub label: Option<NameId>,
     pub number: u32,
     pub is_loop: bool,
-    /// Whether a `break` without a label leaves it.
-    pub breaks: bool,
 }
 
 /// The function's signature, its result variables, its labels and the statements around.
@@ -49,16 +47,25 @@ impl Frame {
         }
     }
 
-    /// Enters a statement that a branch may leave.
-    pub fn enter(&mut self, c: &mut Checker, is_loop: bool) -> Result<u32, NoMemory> {
-        let number = c.fresh_label();
+    /// The label that stands before a statement, which no later one has.
+    pub fn take_label(&mut self) -> Option<NameId> {
         let label = self.label;
         self.label = None;
+        label
+    }
+
+    /// Enters a statement that a branch may leave, with the label before it. Answers its number.
+    pub fn enter(
+        &mut self,
+        c: &mut Checker,
+        label: Option<NameId>,
+        is_loop: bool,
+    ) -> Result<u32, NoMemory> {
+        let number = c.fresh_label();
         self.targets.push(TargetRow {
             label,
             number,
             is_loop,
-            breaks: true,
         })?;
         Ok(number)
     }
@@ -80,11 +87,8 @@ impl Frame {
     /// The statement that a branch leads to. Go, "Break statements", "Continue statements".
     pub fn target(&self, label: Option<NameId>, continues: bool) -> Option<u32> {
         for row in self.targets.iter().rev() {
-            let fits = match label {
-                Some(_) => row.label == label && (row.is_loop || !continues),
-                None => row.is_loop || row.breaks && !continues,
-            };
-            if fits {
+            let is_named = label.is_none() || row.label == label;
+            if is_named && (row.is_loop || !continues) {
                 return Some(row.number);
             }
         }
@@ -93,7 +97,6 @@ impl Frame {
 
     /// F90 at each label that nothing names.
     pub fn tell_labels(&self, c: &mut Checker) -> Result<(), NoMemory> {
-        let _ = NONE;
         for row in self.labels.iter() {
             if !row.used {
                 c.fault_of(FaultCode::UnusedLabel, row.place, row.name)?;

@@ -1,11 +1,13 @@
 //! Declarations in bodies. Go, "Constant declarations", "Type declarations", "Variable declarations".
 
-use crate::assign::{new_variable, nothing, right_sides, store};
+use crate::assign::{NOWHERE, new_variable, variable_side};
 use crate::constants::constant_value;
+use crate::hold::{declare, nothing, sequence};
+use crate::sides::{Left, Sides, as_type, right_sides, store_sides};
 use gj_base::NoMemory;
 use go_check_expr::type_expr;
-use go_check_operand::assignment::{assignment, default_value};
-use go_check_state::node::{PlaceNode, StmtId, StmtNode, Target};
+use go_check_operand::assignment::default_value;
+use go_check_state::node::StmtId;
 use go_check_state::{BLANK, Checker, Entity, FaultCode, NONE, Operand, Shape};
 use go_syntax::tree::{Decl, DeclForm, Expr, Name, TypeSpec, ValueSpec};
 use go_type::types::TypeId;
@@ -25,8 +27,7 @@ pub fn decl(c: &mut Checker, d: &Decl) -> Result<StmtId, NoMemory> {
             for spec in specs {
                 parts.push(var_spec(c, spec)?.0)?;
             }
-            let parts = c.nodes.list(parts.as_slice())?;
-            c.nodes.stmt(StmtNode::Seq(parts))
+            sequence(c, &parts)
         }
         DeclForm::Func(_, _, _, _) => nothing(c),
     }
@@ -158,17 +159,20 @@ fn forget(c: &mut Checker, name: &Name) -> Result<(), NoMemory> {
 }
 
 // The values of a variable declaration: none where it gives none.
-fn spec_values(c: &mut Checker, spec: &ValueSpec) -> Result<Option<Vec<Operand>>, NoMemory> {
+fn spec_values(c: &mut Checker, spec: &ValueSpec) -> Result<Option<Sides>, NoMemory> {
     if spec.values.is_empty() {
         return Ok(None);
     }
     match right_sides(c, &spec.values, spec.names.len())? {
-        Some(values) => Ok(Some(values)),
+        Some(sides) => Ok(Some(sides)),
         None => {
             if let Some(name) = spec.names.first() {
                 c.fault(FaultCode::CountMismatch, name.place)?;
             }
-            Ok(Some(Vec::new(c.alloc)))
+            Ok(Some(Sides {
+                values: Vec::new(c.alloc),
+                results: None,
+            }))
         }
     }
 }
@@ -178,60 +182,64 @@ fn var_spec(c: &mut Checker, spec: &ValueSpec) -> Result<StmtId, NoMemory> {
         Some(e) => Some(type_expr(c, e, true)?),
         None => None,
     };
-    let values = spec_values(c, spec)?;
-    let mut parts: Vec<u32> = Vec::new(c.alloc);
-    let mut targets: Vec<u32> = Vec::new(c.alloc);
-    let mut nodes: Vec<u32> = Vec::new(c.alloc);
-    for number in 0..spec.names.len() {
-        if let Some(name) = spec.names.get(number) {
-            let x = match &values {
-                Some(values) => match values.get(number).copied() {
-                    Some(x) => Some(x),
-                    None => Some(c.unknown(name.place)?),
-                },
-                None => None,
-            };
-            var_name(c, name, t, x, &mut parts, &mut targets, &mut nodes)?;
-        }
+    match spec_values(c, spec)? {
+        Some(sides) => with_values(c, spec, t, &sides),
+        None => without_values(c, spec, t.unwrap_or(NONE)),
     }
-    parts.push(store(c, &targets, &nodes)?.0)?;
-    let parts = c.nodes.list(parts.as_slice())?;
-    c.nodes.stmt(StmtNode::Seq(parts))
 }
 
+// The names, each a fresh variable.
+fn without_values(c: &mut Checker, spec: &ValueSpec, t: TypeId) -> Result<StmtId, NoMemory> {
+    let mut parts: Vec<u32> = Vec::new(c.alloc);
+    for name in &spec.names {
+        let id = c.names.intern(name.text.as_bytes())?;
+        if id != BLANK {
+            let var = new_variable(c, id, name.place, t)?;
+            parts.push(declare(c, var)?.0)?;
+        }
+    }
+    sequence(c, &parts)
+}
+
+// The names with their values, which are evaluated before the names are declared.
+fn with_values(
+    c: &mut Checker,
+    spec: &ValueSpec,
+    t: Option<TypeId>,
+    sides: &Sides,
+) -> Result<StmtId, NoMemory> {
+    let mut parts: Vec<u32> = Vec::new(c.alloc);
+    let mut lefts: Vec<Left> = Vec::new(c.alloc);
+    let mut values: Vec<Operand> = Vec::new(c.alloc);
+    for number in 0..spec.names.len() {
+        if let Some(name) = spec.names.get(number) {
+            let x = match sides.values.get(number).copied() {
+                Some(x) => x,
+                None => c.unknown(name.place)?,
+            };
+            let x = match t {
+                Some(t) => as_type(c, x, t)?,
+                None => default_value(c, x)?,
+            };
+            values.push(x)?;
+            lefts.push(var_name(c, name, t.unwrap_or(x.ty), &mut parts)?)?;
+        }
+    }
+    store_sides(c, parts, sides, &lefts, &values)
+}
+
+// A name as a left side, once it is declared.
 fn var_name(
     c: &mut Checker,
     name: &Name,
-    t: Option<TypeId>,
-    x: Option<Operand>,
+    ty: TypeId,
     parts: &mut Vec<u32>,
-    targets: &mut Vec<u32>,
-    nodes: &mut Vec<u32>,
-) -> Result<(), NoMemory> {
-    let x = match (x, t) {
-        (Some(x), Some(t)) => Some(assignment(c, x, t)?),
-        (Some(x), None) => Some(default_value(c, x)?),
-        (None, _) => None,
-    };
-    let ty = match (t, x) {
-        (Some(t), _) => t,
-        (None, Some(x)) => x.ty,
-        (None, None) => NONE,
-    };
+) -> Result<Left, NoMemory> {
     let id = c.names.intern(name.text.as_bytes())?;
     if id == BLANK {
-        if let Some(x) = x {
-            targets.push(c.nodes.target(Target::Blank)?)?;
-            nodes.push(x.node.0)?;
-        }
-        return Ok(());
+        return Ok(NOWHERE);
     }
     let var = new_variable(c, id, name.place, ty)?;
-    parts.push(c.nodes.stmt(StmtNode::Declare(var))?.0)?;
-    if let Some(x) = x {
-        let place = c.nodes.place(PlaceNode::Local(var))?;
-        targets.push(c.nodes.target(Target::Place { ty, place })?)?;
-        nodes.push(x.node.0)?;
-    }
-    Ok(())
+    parts.push(declare(c, var)?.0)?;
+    variable_side(c, var, ty)
 }

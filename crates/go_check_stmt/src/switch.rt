@@ -1,40 +1,52 @@
 //! Switches. Go, "Expression switches", "Type switches".
 
-use crate::assign::nothing;
-use crate::body::whole;
-use crate::frame::Frame;
-use crate::stmt::{clause_body, optional_stmt};
+use crate::hold::{declare_with, nothing, read_var, sequence};
 use gj_base::{NoMemory, Op, Place};
 use go_check_expr::expr::expr;
 use go_check_expr::literal::same_constant;
 use go_check_operand::assignment::{default_value, single_value};
 use go_check_operand::binary::binary;
-use go_check_state::node::{ConstId, Node, NodeId, Span, StmtId, StmtNode};
-use go_check_state::{BLANK, Checker, Entity, FaultCode, Mode, NameId, Operand};
+use go_check_state::node::{ConstId, Node, NodeId, StmtId, StmtNode, VarRef};
+use go_check_state::state::SymbolRow;
+use go_check_state::{BLANK, Checker, EMPTY, Entity, FaultCode, Mode, NONE, NameId, Operand};
 use go_const::Const;
-use go_syntax::tree::{Clause, Expr, Name, Stmt};
+use go_syntax::tree::{Clause, Expr, Name, Stmt, StmtForm};
 use go_type::predeclared::BOOL;
 use go_type::types::TypeId;
 
-/// What a switch gathers: tests, clauses, the default, and the constants that were cases.
+/// A switch so far: its operand, its tests and clauses, and the cases that were there.
 #[derive(Drop)]
-struct Gathered {
+pub struct Switch {
+    label: u32,
+    x: Operand,
+    /// Whether the tag is missing.
+    bare: bool,
+    parts: Vec<u32>,
     tests: Vec<u32>,
     clauses: Vec<u32>,
     default: Option<u32>,
     consts: Vec<(ConstId, TypeId)>,
     types: Vec<TypeId>,
     nil: bool,
+    symbol: Option<(NameId, Place)>,
+    /// The symbol's objects, one for each clause.
+    objects: Vec<u32>,
 }
 
-fn gather(c: &Checker) -> Gathered {
-    Gathered {
+fn begin(c: &Checker, x: Operand, bare: bool, parts: Vec<u32>) -> Switch {
+    Switch {
+        label: 0,
+        x,
+        bare,
+        parts,
         tests: Vec::new(c.alloc),
         clauses: Vec::new(c.alloc),
         default: None,
         consts: Vec::new(c.alloc),
         types: Vec::new(c.alloc),
         nil: false,
+        symbol: None,
+        objects: Vec::new(c.alloc),
     }
 }
 
@@ -49,7 +61,7 @@ fn count_clauses(c: &mut Checker, place: Place, clauses: &Vec<Clause>) -> Result
             }
             seen = true;
         }
-        cases += clause.exprs.len();
+        cases = cases.saturating_add(clause.exprs.len());
     }
     if cases > 1000 || clauses.len() > 1000 {
         c.fault(FaultCode::TooManyParts, place)?;
@@ -57,112 +69,86 @@ fn count_clauses(c: &mut Checker, place: Place, clauses: &Vec<Clause>) -> Result
     Ok(())
 }
 
-/// `switch init; x {}`.
-pub fn switch(
-    c: &mut Checker,
-    f: &mut Frame,
-    place: Place,
-    init: &Option<Stmt>,
-    tag: &Option<Expr>,
-    clauses: &Vec<Clause>,
-) -> Result<StmtId, NoMemory> {
-    c.open()?;
-    let label_name = f.label;
-    f.label = None;
-    let mut parts: Vec<u32> = Vec::new(c.alloc);
-    parts.push(optional_stmt(c, f, init)?.0)?;
-    let x = tag_value(c, place, tag)?;
-    f.label = label_name;
-    let label = f.enter(c, false)?;
-    count_clauses(c, place, clauses)?;
-    let mut g = gather(c);
-    for number in 0..clauses.len() {
-        if let Some(clause) = clauses.get(number) {
-            let is_last = number + 1 == clauses.len();
-            switch_clause(c, f, x, clause, number as u32, is_last, &mut g)?;
-        }
+// An operand that is evaluated once.
+fn once(c: &mut Checker, parts: &mut Vec<u32>, x: Operand) -> Result<Operand, NoMemory> {
+    if x.is_unknown() {
+        return Ok(x);
     }
-    f.leave();
-    c.close();
-    parts.push(switched(c, label, &g)?.0)?;
-    let parts = c.nodes.list(parts.as_slice())?;
-    c.nodes.stmt(StmtNode::Seq(parts))
-}
-
-fn switched(c: &mut Checker, label: u32, g: &Gathered) -> Result<StmtId, NoMemory> {
-    let tests = c.nodes.list(g.tests.as_slice())?;
-    let clauses = c.nodes.list(g.clauses.as_slice())?;
-    c.nodes.stmt(StmtNode::SwitchOn {
-        label,
-        tests,
-        clauses,
-        default: g.default,
+    let var = c.fresh(EMPTY, x.place, x.ty)?;
+    declare_with(c, parts, var, x.node)?;
+    let node = read_var(c, x.place, var)?;
+    Ok(Operand {
+        mode: Mode::Value,
+        node,
+        ..x
     })
 }
 
-// The tag, which is `true` where it is missing.
-fn tag_value(c: &mut Checker, place: Place, tag: &Option<Expr>) -> Result<Operand, NoMemory> {
-    match tag {
+/// `switch init; x {`: the init is done, the clauses follow.
+pub fn begin_switch(
+    c: &mut Checker,
+    place: Place,
+    init: StmtId,
+    tag: &Option<Expr>,
+    clauses: &Vec<Clause>,
+) -> Result<Switch, NoMemory> {
+    let mut parts: Vec<u32> = Vec::new(c.alloc);
+    parts.push(init.0)?;
+    let x = match tag {
         Some(e) => {
-            let x = whole(c, e)?;
+            let x = expr(c, e)?;
             let x = default_value(c, x)?;
-            // A constant tag is compared like any other value.
-            Ok(Operand {
-                mode: if x.is_unknown() {
-                    Mode::Unknown
-                } else {
-                    Mode::Value
-                },
-                ..x
-            })
+            once(c, &mut parts, x)?
         }
-        None => {
-            let value = c.add_const(Const::Bool(true))?;
-            let x = c.constant_operand(place, BOOL, value)?;
-            Ok(Operand {
-                mode: Mode::Value,
-                ..x
-            })
-        }
+        None => missing_tag(c, place)?,
+    };
+    count_clauses(c, place, clauses)?;
+    Ok(begin(c, x, tag.is_none(), parts))
+}
+
+// A tag that is missing is `true`.
+fn missing_tag(c: &mut Checker, place: Place) -> Result<Operand, NoMemory> {
+    let value = c.add_const(Const::Bool(true))?;
+    let x = c.constant_operand(place, BOOL, value)?;
+    Ok(Operand {
+        mode: Mode::Value,
+        ..x
+    })
+}
+
+impl Switch {
+    /// The label of the switch, which its branches name.
+    pub fn set_label(&mut self, label: u32) {
+        self.label = label;
     }
 }
 
-fn switch_clause(
-    c: &mut Checker,
-    f: &mut Frame,
-    tag: Operand,
-    clause: &Clause,
-    number: u32,
-    is_last: bool,
-    g: &mut Gathered,
-) -> Result<(), NoMemory> {
+// The number of the clause that comes next.
+fn next_clause(g: &Switch) -> u32 {
+    let number = g.clauses.len() / 2;
+    if number > 1000 { 1000 } else { number as u32 }
+}
+
+/// The cases of the next clause.
+pub fn cases(c: &mut Checker, g: &mut Switch, clause: &Clause) -> Result<(), NoMemory> {
     for e in &clause.exprs {
-        case(c, tag, e, number, g)?;
+        case(c, g, e)?;
     }
     if clause.exprs.is_empty() {
-        g.default = Some(number);
+        g.default = Some(next_clause(g));
     }
-    let (body, falls) = clause_body(c, f, &clause.body, !is_last)?;
-    g.clauses.push(body.0)?;
-    g.clauses.push(if falls { 1 } else { 0 })?;
     Ok(())
 }
 
 // A case is compared with the tag: F92 at a constant that was there.
-fn case(
-    c: &mut Checker,
-    tag: Operand,
-    e: &Expr,
-    number: u32,
-    g: &mut Gathered,
-) -> Result<(), NoMemory> {
-    let x = whole(c, e)?;
-    let test = binary(c, e.place, Op::Eq, x, tag)?;
+fn case(c: &mut Checker, g: &mut Switch, e: &Expr) -> Result<(), NoMemory> {
+    let x = expr(c, e)?;
+    let test = binary(c, e.place, Op::Eq, x, g.x)?;
     if test.is_unknown() {
         return Ok(());
     }
-    g.tests.push(test.node.0)?;
-    g.tests.push(number)?;
+    let test = default_value(c, test)?;
+    add_test(c, g, test.node)?;
     let Some((id, t)) = case_constant(c, x, test) else {
         return Ok(());
     };
@@ -173,6 +159,18 @@ fn case(
         return c.fault(FaultCode::DuplicateCase, e.place);
     }
     g.consts.push((id, t))?;
+    Ok(())
+}
+
+// A test; without a tag the case alone is one.
+fn add_test(c: &Checker, g: &mut Switch, test: NodeId) -> Result<(), NoMemory> {
+    let node = match c.nodes.get(test) {
+        Node::Equal { left, .. } if g.bare => left,
+        _ => test,
+    };
+    let number = next_clause(g);
+    g.tests.push(node.0)?;
+    g.tests.push(number)?;
     Ok(())
 }
 
@@ -190,54 +188,93 @@ fn case_constant(c: &Checker, x: Operand, test: Operand) -> Option<(ConstId, Typ
     }
 }
 
-/// `switch init; x := y.(type) {}`.
-pub fn type_switch(
+/// The number of the `fallthrough` that ends a clause, or one that no statement has.
+pub fn falls_at(clause: &Clause, is_last: bool) -> usize {
+    let mut end = clause.body.len();
+    for number in (0..clause.body.len()).rev() {
+        match clause.body.get(number) {
+            Some(s) if is_empty(s) => end = number,
+            _ => break,
+        }
+    }
+    if end == 0 || is_last {
+        return usize::MAX;
+    }
+    match clause.body.get(end - 1) {
+        Some(s) if is_fallthrough(s) => end - 1,
+        _ => usize::MAX,
+    }
+}
+
+// Whether a statement is `fallthrough`, labels aside.
+fn is_fallthrough(s: &Stmt) -> bool {
+    match &*s.form {
+        StmtForm::Fallthrough => true,
+        StmtForm::Labeled(_, s) => is_fallthrough(s),
+        _ => false,
+    }
+}
+
+fn is_empty(s: &Stmt) -> bool {
+    match &*s.form {
+        StmtForm::Empty => true,
+        _ => false,
+    }
+}
+
+/// The next clause, once its body is known.
+pub fn end_clause(g: &mut Switch, body: StmtId, falls: bool) -> Result<(), NoMemory> {
+    g.clauses.push(body.0)?;
+    g.clauses.push(if falls { 1 } else { 0 })?;
+    Ok(())
+}
+
+/// The whole switch. Of a symbol are told the objects, for it is unused where none of them is used.
+pub fn end_switch(c: &mut Checker, g: Switch) -> Result<StmtId, NoMemory> {
+    if let Some((name, place)) = g.symbol {
+        let objects = c.nodes.list(g.objects.as_slice())?;
+        c.symbols.push(SymbolRow {
+            name,
+            place,
+            objects,
+        })?;
+    }
+    let tests = c.nodes.list(g.tests.as_slice())?;
+    let clauses = c.nodes.list(g.clauses.as_slice())?;
+    let whole = c.nodes.stmt(StmtNode::SwitchOn {
+        label: g.label,
+        tests,
+        clauses,
+        default: g.default,
+    })?;
+    let mut parts = g.parts;
+    parts.push(whole.0)?;
+    sequence(c, &parts)
+}
+
+/// `switch init; x := y.(type) {`: the init is done, the clauses follow. F68 where y is no interface value.
+pub fn begin_type_switch(
     c: &mut Checker,
-    f: &mut Frame,
     place: Place,
-    init: &Option<Stmt>,
+    init: StmtId,
     name: &Option<Name>,
     of: &Expr,
     clauses: &Vec<Clause>,
-) -> Result<StmtId, NoMemory> {
-    c.open()?;
-    let label_name = f.label;
-    f.label = None;
+) -> Result<Switch, NoMemory> {
     let mut parts: Vec<u32> = Vec::new(c.alloc);
-    parts.push(optional_stmt(c, f, init)?.0)?;
-    let x = switched_value(c, of)?;
-    f.label = label_name;
-    let label = f.enter(c, false)?;
+    parts.push(init.0)?;
+    let x = expr(c, of)?;
+    let x = single_value(c, x)?;
+    let x = if !x.is_unknown() && !c.is_interface(x.ty) {
+        c.fail(FaultCode::ImpossibleAssertion, x.place)?
+    } else {
+        once(c, &mut parts, x)?
+    };
     count_clauses(c, place, clauses)?;
     let symbol = symbol_name(c, name)?;
-    let mut g = gather(c);
-    let mut used = false;
-    for number in 0..clauses.len() {
-        if let Some(clause) = clauses.get(number) {
-            used |= type_clause(c, f, x, symbol, clause, number as u32, &mut g)?;
-        }
-    }
-    if let Some((name, at)) = symbol {
-        if !used {
-            c.fault_of(FaultCode::UnusedVariable, at, name)?;
-        }
-    }
-    f.leave();
-    c.close();
-    parts.push(switched(c, label, &g)?.0)?;
-    let parts = c.nodes.list(parts.as_slice())?;
-    let _ = nothing(c)?;
-    c.nodes.stmt(StmtNode::Seq(parts))
-}
-
-// F68 where it is no interface value.
-fn switched_value(c: &mut Checker, e: &Expr) -> Result<Operand, NoMemory> {
-    let x = whole(c, e)?;
-    let x = single_value(c, x)?;
-    if !x.is_unknown() && !c.is_interface(x.ty) {
-        return c.fail(FaultCode::ImpossibleAssertion, x.place);
-    }
-    Ok(x)
+    let mut g = begin(c, x, false, parts);
+    g.symbol = symbol;
+    Ok(g)
 }
 
 // The symbol: F83 where it is `_`.
@@ -251,95 +288,133 @@ fn symbol_name(c: &mut Checker, name: &Option<Name>) -> Result<Option<(NameId, P
     Ok(Some((id, name.place)))
 }
 
-// A clause, and whether it uses the symbol.
-fn type_clause(
-    c: &mut Checker,
-    f: &mut Frame,
-    x: Operand,
-    symbol: Option<(NameId, Place)>,
-    clause: &Clause,
-    number: u32,
-    g: &mut Gathered,
-) -> Result<bool, NoMemory> {
-    let mut t = x.ty;
+/// The cases of the next clause of a type switch, and the type that the symbol has there.
+pub fn type_cases(c: &mut Checker, g: &mut Switch, clause: &Clause) -> Result<TypeId, NoMemory> {
+    let mut t = g.x.ty;
     for e in &clause.exprs {
-        let of = type_case(c, x, e, number, g)?;
+        let of = type_case(c, g, e)?;
         if clause.exprs.len() == 1 {
             t = of;
         }
     }
     if clause.exprs.is_empty() {
-        g.default = Some(number);
+        g.default = Some(next_clause(g));
     }
-    c.open()?;
-    let object = match symbol {
-        Some((name, at)) => {
-            let var = c.fresh(name, at, t)?;
-            c.declare(name, at, Entity::Local(var.0, t), false)?;
-            c.innermost(name)
-        }
-        None => None,
-    };
-    let (body, _) = clause_body(c, f, &clause.body, false)?;
-    g.clauses.push(body.0)?;
-    g.clauses.push(0)?;
-    let used = match object {
-        Some(id) => match c.object(id) {
-            Some(object) => object.used,
-            None => false,
-        },
-        None => false,
-    };
-    c.close();
-    Ok(used)
+    Ok(t)
 }
 
 // A case of a type switch: `nil`, or a type that the value may be of. The type that the symbol has.
-fn type_case(
-    c: &mut Checker,
-    x: Operand,
-    e: &Expr,
-    number: u32,
-    g: &mut Gathered,
-) -> Result<TypeId, NoMemory> {
+fn type_case(c: &mut Checker, g: &mut Switch, e: &Expr) -> Result<TypeId, NoMemory> {
     let t = expr(c, e)?;
-    g.tests.push(NodeId(u32::MAX).0)?;
-    g.tests.push(number)?;
     match t.mode {
         Mode::Nil => {
             if g.nil {
                 c.fault(FaultCode::DuplicateCase, e.place)?;
             }
             g.nil = true;
-            Ok(x.ty)
+            nil_test(c, g, e.place)?;
+            Ok(g.x.ty)
         }
         Mode::TypeName => {
-            type_test(c, x, e.place, t.ty, g)?;
+            type_test(c, g, e.place, t.ty)?;
             Ok(t.ty)
         }
         Mode::Unknown => Ok(t.ty),
         _ => {
             c.fault(FaultCode::NotAType, e.place)?;
-            Ok(go_check_state::NONE)
+            Ok(NONE)
         }
     }
 }
 
+fn nil_test(c: &mut Checker, g: &mut Switch, place: Place) -> Result<(), NoMemory> {
+    if g.x.is_unknown() {
+        return Ok(());
+    }
+    let operands = g.x.ty;
+    let right = c.nodes.expr(place, Node::Zero { ty: operands })?;
+    let node = c.nodes.expr(
+        place,
+        Node::Equal {
+            negated: false,
+            operands,
+            ty: BOOL,
+            left: g.x.node,
+            right,
+        },
+    )?;
+    add_test(c, g, node)
+}
+
 // F68 at a type without the methods, F92 at one that was there.
-fn type_test(
-    c: &mut Checker,
-    x: Operand,
-    place: Place,
-    t: TypeId,
-    g: &mut Gathered,
-) -> Result<(), NoMemory> {
+fn type_test(c: &mut Checker, g: &mut Switch, place: Place, t: TypeId) -> Result<(), NoMemory> {
     if g.types.iter().any(|other| other.0 == t.0) {
         return c.fault(FaultCode::DuplicateCase, place);
     }
     g.types.push(t)?;
-    let _ = Span { start: 0, len: 0 };
-    if !x.is_unknown() && !c.is_interface(t) && !c.assignable(t, x.ty) {
+    if g.x.is_unknown() {
+        return Ok(());
+    }
+    if !c.is_interface(t) && !c.assignable(t, g.x.ty) {
         return c.fault(FaultCode::ImpossibleAssertion, place);
     }
-    Ok(())
+    let node = is_of(c, g.x, place, t)?;
+    add_test(c, g, node)
+}
+
+// Whether a value is of a type.
+fn is_of(c: &mut Checker, x: Operand, place: Place, t: TypeId) -> Result<NodeId, NoMemory> {
+    let value = c.fresh(EMPTY, place, t)?;
+    let ok = c.fresh(EMPTY, place, BOOL)?;
+    let node = c.nodes.expr(
+        place,
+        Node::Assert {
+            ty: t,
+            with_ok: true,
+            operand: x.node,
+        },
+    )?;
+    let body = read_var(c, place, ok)?;
+    let vars = c.nodes.list(&[value.0, ok.0])?;
+    let values = c.nodes.list(&[node.0])?;
+    c.nodes.expr(place, Node::Let { vars, values, body })
+}
+
+/// The symbol in the next clause, where its scope is open: a variable with the value, as one of the type.
+pub fn symbol(
+    c: &mut Checker,
+    g: &mut Switch,
+    clause: &Clause,
+    t: TypeId,
+) -> Result<StmtId, NoMemory> {
+    let Some((name, place)) = g.symbol else {
+        return nothing(c);
+    };
+    let var = c.fresh(name, place, t)?;
+    c.declare(name, place, Entity::Local(var.0, t), false)?;
+    if let Some(id) = c.innermost(name) {
+        g.objects.push(id)?;
+    }
+    if g.x.is_unknown() || !c.has(t) {
+        return nothing(c);
+    }
+    let value = if clause.exprs.len() == 1 && t.0 != g.x.ty.0 {
+        c.nodes.expr(
+            place,
+            Node::Assert {
+                ty: t,
+                with_ok: false,
+                operand: g.x.node,
+            },
+        )?
+    } else {
+        g.x.node
+    };
+    declared_value(c, var, value)
+}
+
+fn declared_value(c: &mut Checker, var: VarRef, value: NodeId) -> Result<StmtId, NoMemory> {
+    let mut parts: Vec<u32> = Vec::new(c.alloc);
+    declare_with(c, &mut parts, var, value)?;
+    sequence(c, &parts)
 }
