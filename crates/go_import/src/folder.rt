@@ -19,7 +19,7 @@ pub fn read_folder<F: Files>(
     let mut names = go_names(p.alloc, files, folder)?;
     while let Some(name) = names.pop_first() {
         if let Some(read) = read_file(p.alloc, files, folder, name)? {
-            p.count_file(size_of(&read));
+            p.count_file(read.bytes.as_bytes().len() as u64);
             add_file(p, package, copied(path)?, read, false)?;
             if p.is_too_large() {
                 return Ok(());
@@ -27,13 +27,6 @@ pub fn read_folder<F: Files>(
         }
     }
     Ok(())
-}
-
-fn size_of(read: &Read) -> u64 {
-    match &read.bytes {
-        Some(bytes) => bytes.as_bytes().len() as u64,
-        None => 0,
-    }
 }
 
 // The names of the `.go` files of a folder, in byte order. A folder that isn't there has none.
@@ -79,9 +72,14 @@ fn read_file<F: Files>(
     match files.read(alloc, path.as_str(), FILE_LIMIT) {
         Ok(bytes) => Ok(Some(Read {
             name,
-            bytes: Some(Text::from_vec(bytes)),
+            bytes: Text::from_vec(bytes),
+            is_long: false,
         })),
-        Err(FileError::TooLong) => Ok(Some(Read { name, bytes: None })),
+        Err(FileError::TooLong) => Ok(Some(Read {
+            name,
+            bytes: Text::new(alloc),
+            is_long: true,
+        })),
         Err(FileError::Missing) => Ok(None),
         Err(FileError::Failed) => Err(LoadRefusal::ReadFault),
         Err(FileError::NoMemory) => Err(LoadRefusal::NoMemory),

@@ -189,7 +189,11 @@ fn add_embedded(
     let package = p.packages.len();
     let mut name = path.clone()?;
     name.push_bytes(b".go")?;
-    let bytes = Some(Text::from_slice(p.alloc, text.as_bytes())?);
-    add_file(p, package, path.clone()?, Read { name, bytes }, true)?;
+    let read = Read {
+        name,
+        bytes: Text::from_slice(p.alloc, text.as_bytes())?,
+        is_long: false,
+    };
+    add_file(p, package, path.clone()?, read, true)?;
     Ok(Target::Package(p.add_package(number, first, true)?))
 }

@@ -11,7 +11,8 @@ use go_syntax::Tokens;
 #[derive(Drop)]
 pub struct Read {
     pub name: Text,
-    pub bytes: Option<Text>,
+    pub bytes: Text,
+    pub is_long: bool,
 }
 
 /// Adds a file, with the next number, to the package with this number and path.
@@ -22,21 +23,17 @@ pub fn add_file(
     read: Read,
     embedded: bool,
 ) -> Result<(), NoMemory> {
-    let form = match &read.bytes {
-        Some(bytes) => form_of(p, bytes.as_bytes())?,
-        None => FileForm::Long,
-    };
-    let too_long = read.bytes.is_none();
-    let bytes = match read.bytes {
-        Some(bytes) => bytes,
-        None => Text::new(p.alloc),
+    let form = if read.is_long {
+        FileForm::Long
+    } else {
+        form_of(p, read.bytes.as_bytes())?
     };
     p.sources.push(FileEntry {
         path,
         name: read.name,
-        bytes,
+        bytes: read.bytes,
         embedded,
-        too_long,
+        too_long: read.is_long,
     })?;
     p.files.push(FileRow { package, form })?;
     Ok(())
