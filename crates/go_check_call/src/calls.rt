@@ -169,19 +169,51 @@ pub fn call(
     let Shape::Func(params, _, variadic) = c.shape(f.ty) else {
         return c.fail(FaultCode::NotAFunction, f.place);
     };
+    let (f, receiver) = held_receiver(c, f);
     let (args, several) = spread(c, args)?;
     let gathers = variadic && !dots;
     if dots && (several.is_some() || !variadic) || !fits_count(params, gathers, args.len()) {
         return c.fail(FaultCode::WrongArgumentCount, place);
     }
+    let x = call_of(c, place, f, gathers, &args, several)?;
+    within(c, receiver, x)
+}
+
+// A method value whose receiver stands in a fresh variable, as the method of that: the variable goes around
+// the call.
+fn held_receiver(c: &Checker, f: Operand) -> (Operand, Option<Results>) {
+    let Node::Let { vars, values, body } = c.nodes.get(f.node) else {
+        return (f, None);
+    };
+    match c.nodes.get(body) {
+        Node::Bind { .. } | Node::BindDynamic { .. } => {
+            let value = NodeId(c.nodes.item(values, 0));
+            (Operand { node: body, ..f }, Some(Results { vars, value }))
+        }
+        _ => (f, None),
+    }
+}
+
+// The call with its arguments, which may be the results of one call.
+fn call_of(
+    c: &mut Checker,
+    place: Place,
+    f: Operand,
+    gathers: bool,
+    args: &Vec<Operand>,
+    several: Option<Results>,
+) -> Result<Operand, NoMemory> {
+    let Shape::Func(_, _, variadic) = c.shape(f.ty) else {
+        return c.unknown(place);
+    };
     match several {
-        None => call_with(c, place, f, gathers, &args),
-        Some(results) if !variadic && are_params(c, f.ty, &args) => {
+        None => call_with(c, place, f, gathers, args),
+        Some(results) if !variadic && are_params(c, f.ty, args) => {
             call_of_results(c, place, f, results)
         }
         Some(_) => {
             let (f, function) = held_callee(c, f)?;
-            let x = call_with(c, place, f, gathers, &args)?;
+            let x = call_with(c, place, f, gathers, args)?;
             let x = within(c, several, x)?;
             within(c, function, x)
         }
