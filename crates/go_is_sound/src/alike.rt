@@ -2,9 +2,9 @@
 //!
 //! Go, "Conversions", "Struct types".
 
+use crate::levels::level_at;
 use go_type::TypeTable;
 use go_type::types::{Dir, FieldRow, GoType, MethodSpec, Sig, TypeId};
-use go_values::level::level_at;
 
 fn same_dir(a: Dir, b: Dir) -> bool {
     match a {

@@ -4,10 +4,9 @@
 
 use crate::alike::are_alike;
 use crate::facts::{Facts, same_signature};
-use crate::levels::{is_interface, under};
+use crate::levels::{is_interface, level_at, under, underlying};
 use crate::methods::interface_method;
 use go_type::types::{GoType, IntName, TypeId};
-use go_values::level::underlying;
 
 // Whether it is a type of bytes or of runes.
 fn is_byte_or_rune(facts: &Facts, t: TypeId) -> bool {
@@ -125,7 +124,7 @@ fn slices_array(facts: &Facts, array: TypeId, to: TypeId) -> bool {
     let Some(GoType::Array(_, element)) = under(facts.table(), array) else {
         return false;
     };
-    match go_values::level::level_at(facts.table(), to) {
+    match level_at(facts.table(), to) {
         Some(GoType::Slice(found)) => found.0 == element.0,
         _ => false,
     }

@@ -61,6 +61,31 @@ fn by_signature<'p>(sig: &'p Sig) -> Called<'p> {
     }
 }
 
+fn single(given: Option<Given<'_>>) -> Option<TypeId> {
+    match given {
+        Some(given) => given.one(),
+        None => None,
+    }
+}
+
+// Whether it makes a string, a slice, an array, a struct, a map or a channel, or looks into one.
+fn is_composite(form: &CoreForm) -> bool {
+    match form {
+        CoreForm::SliceOf { .. } => true,
+        CoreForm::Build { .. } => true,
+        CoreForm::BuildMap { .. } => true,
+        CoreForm::MapGet { .. } => true,
+        CoreForm::Len { .. } => true,
+        CoreForm::Cap { .. } => true,
+        CoreForm::Append { .. } => true,
+        CoreForm::CopyElems { .. } => true,
+        CoreForm::MakeSlice { .. } => true,
+        CoreForm::MakeMap { .. } => true,
+        CoreForm::MakeChan { .. } => true,
+        _ => false,
+    }
+}
+
 fn is_zero(e: &CoreExpr) -> bool {
     match &*e.form {
         CoreForm::Zero { .. } => true,
@@ -91,14 +116,16 @@ impl<'f, 'p> Judge<'f, 'p> {
                 callee,
                 operands,
             } => {
-                let found = self.call(callee, operands)?;
-                if !same_types(results.as_slice(), found) {
+                let found = self.callee(callee)?;
+                if !self.exprs(operands, found.wanted)
+                    || !same_types(results.as_slice(), found.results)
+                {
                     return None;
                 }
                 Some(Given::Results(results.as_slice()))
             }
             CoreForm::GateAdd { cell, number } => {
-                let n = self.one(number)?;
+                let n = single(self.expr(number))?;
                 when(self.gate(cell) && n.0 == int_id(IntName::Int).0, n)
             }
             CoreForm::GateMake { .. } => None,
@@ -112,7 +139,12 @@ impl<'f, 'p> Judge<'f, 'p> {
                 self.set_all(declared, false);
                 found
             }
-            form => self.operator(form),
+            form => {
+                if is_composite(form) {
+                    return self.composite(form);
+                }
+                self.operator(form)
+            }
         }
     }
 
@@ -121,7 +153,7 @@ impl<'f, 'p> Judge<'f, 'p> {
     fn operator(&mut self, form: &'p CoreForm) -> Option<Given<'p>> {
         match form {
             CoreForm::Unary { op, ty, operand } => {
-                let x = self.one(operand)?;
+                let x = single(self.expr(operand))?;
                 self.unary(*op, *ty, x)
             }
             CoreForm::Binary {
@@ -130,13 +162,13 @@ impl<'f, 'p> Judge<'f, 'p> {
                 left,
                 right,
             } => {
-                let x = self.one(left)?;
-                let y = self.one(right)?;
+                let x = single(self.expr(left))?;
+                let y = single(self.expr(right))?;
                 self.binary(*op, *ty, x, y)
             }
             CoreForm::Concat { ty, left, right } => {
-                let x = self.one(left)?;
-                let y = self.one(right)?;
+                let x = single(self.expr(left))?;
+                let y = single(self.expr(right))?;
                 self.concat(*ty, x, y)
             }
             CoreForm::Equal {
@@ -146,8 +178,8 @@ impl<'f, 'p> Judge<'f, 'p> {
                 left,
                 right,
             } => {
-                let x = self.one(left)?;
-                let y = self.one(right)?;
+                let x = single(self.expr(left))?;
+                let y = single(self.expr(right))?;
                 self.equal(*operands, *ty, x, y, is_zero(left) || is_zero(right))
             }
             CoreForm::Less {
@@ -157,31 +189,31 @@ impl<'f, 'p> Judge<'f, 'p> {
                 left,
                 right,
             } => {
-                let x = self.one(left)?;
-                let y = self.one(right)?;
+                let x = single(self.expr(left))?;
+                let y = single(self.expr(right))?;
                 self.less(*op, *operands, *ty, x, y)
             }
             CoreForm::AndThen { ty, left, right } => {
-                let x = self.one(left)?;
-                let y = self.one(right)?;
+                let x = single(self.expr(left))?;
+                let y = single(self.expr(right))?;
                 self.truths(*ty, x, y)
             }
             CoreForm::OrElse { ty, left, right } => {
-                let x = self.one(left)?;
-                let y = self.one(right)?;
+                let x = single(self.expr(left))?;
+                let y = single(self.expr(right))?;
                 self.truths(*ty, x, y)
             }
             CoreForm::Not { ty, operand } => {
-                let x = self.one(operand)?;
+                let x = single(self.expr(operand))?;
                 self.truths(*ty, x, x)
             }
             CoreForm::Convert { from, ty, operand } => {
-                let x = self.one(operand)?;
+                let x = single(self.expr(operand))?;
                 self.convert(*from, *ty, x)
             }
             CoreForm::ByteAt { text, index } => {
-                let x = self.one(text)?;
-                let y = self.one(index)?;
+                let x = single(self.expr(text))?;
+                let y = single(self.expr(index))?;
                 self.byte_at(x, y)
             }
             CoreForm::Bind {
@@ -189,7 +221,7 @@ impl<'f, 'p> Judge<'f, 'p> {
                 method,
                 receiver,
             } => {
-                let x = self.one(receiver)?;
+                let x = single(self.expr(receiver))?;
                 self.bind(*ty, method, x)
             }
             CoreForm::BindDynamic {
@@ -198,11 +230,11 @@ impl<'f, 'p> Judge<'f, 'p> {
                 package,
                 receiver,
             } => {
-                let x = self.one(receiver)?;
+                let x = single(self.expr(receiver))?;
                 self.bind_dynamic(*ty, name.as_bytes(), package.as_bytes(), x)
             }
             CoreForm::Wrap { from, ty, operand } => {
-                let x = self.one(operand)?;
+                let x = single(self.expr(operand))?;
                 self.wrap(*from, *ty, x)
             }
             CoreForm::Assert {
@@ -210,11 +242,11 @@ impl<'f, 'p> Judge<'f, 'p> {
                 with_ok,
                 operand,
             } => {
-                let x = self.one(operand)?;
+                let x = single(self.expr(operand))?;
                 self.assert(*ty, *with_ok, x)
             }
             CoreForm::Basic { ty, operand } => {
-                let x = self.one(operand)?;
+                let x = single(self.expr(operand))?;
                 self.basic(*ty, x)
             }
             CoreForm::Receive {
@@ -222,10 +254,10 @@ impl<'f, 'p> Judge<'f, 'p> {
                 with_ok,
                 operand,
             } => {
-                let x = self.one(operand)?;
+                let x = single(self.expr(operand))?;
                 self.receive(*channel, *with_ok, x)
             }
-            _ => self.composite(form),
+            _ => None,
         }
     }
 
@@ -241,7 +273,7 @@ impl<'f, 'p> Judge<'f, 'p> {
                 high,
                 limit,
             } => {
-                let x = self.one(operand)?;
+                let x = single(self.expr(operand))?;
                 if !self.bound(low) || !self.bound(high) || !self.bound(limit) {
                     return None;
                 }
@@ -269,16 +301,16 @@ impl<'f, 'p> Judge<'f, 'p> {
                 operand,
                 key,
             } => {
-                let x = self.one(operand)?;
-                let y = self.one(key)?;
+                let x = single(self.expr(operand))?;
+                let y = single(self.expr(key))?;
                 self.map_get(*map_type, *with_ok, x, y)
             }
             CoreForm::Len { from, operand } => {
-                let x = self.one(operand)?;
+                let x = single(self.expr(operand))?;
                 self.len(*from, x)
             }
             CoreForm::Cap { from, operand } => {
-                let x = self.one(operand)?;
+                let x = single(self.expr(operand))?;
                 self.cap(*from, x)
             }
             CoreForm::Append {
@@ -287,8 +319,8 @@ impl<'f, 'p> Judge<'f, 'p> {
                 operand,
                 elements,
             } => {
-                let x = self.one(operand)?;
-                let y = self.one(elements)?;
+                let x = single(self.expr(operand))?;
+                let y = single(self.expr(elements))?;
                 when(self.extends(*ty, *from, x, y), *ty)
             }
             CoreForm::CopyElems {
@@ -297,8 +329,8 @@ impl<'f, 'p> Judge<'f, 'p> {
                 target,
                 source,
             } => {
-                let x = self.one(target)?;
-                let y = self.one(source)?;
+                let x = single(self.expr(target))?;
+                let y = single(self.expr(source))?;
                 when(self.extends(*ty, *from, x, y), int_id(IntName::Int))
             }
             CoreForm::MakeSlice {
@@ -306,7 +338,7 @@ impl<'f, 'p> Judge<'f, 'p> {
                 length,
                 capacity,
             } => {
-                let n = self.one(length)?;
+                let n = single(self.expr(length))?;
                 if !self.bound(capacity) {
                     return None;
                 }
@@ -328,20 +360,11 @@ impl<'f, 'p> Judge<'f, 'p> {
         }
     }
 
-    /// The type of an expression that gives one value.
-    #[cycle(expr)]
-    pub fn one(&mut self, e: &'p CoreExpr) -> Option<TypeId> {
-        match self.expr(e) {
-            Some(given) => given.one(),
-            None => None,
-        }
-    }
-
     /// A size or a bound is an integer.
     #[cycle(expr)]
     fn bound(&mut self, e: &'p Option<CoreExpr>) -> bool {
         match e {
-            Some(e) => match self.one(e) {
+            Some(e) => match single(self.expr(e)) {
                 Some(t) => is_int(self.table(), t),
                 None => false,
             },
@@ -352,7 +375,7 @@ impl<'f, 'p> Judge<'f, 'p> {
     #[cycle(expr)]
     fn elements(&mut self, t: TypeId, count: u32, list: &'p CoreElements) -> bool {
         for element in &list.items {
-            let Some(x) = self.one(&element.value) else {
+            let Some(x) = single(self.expr(&element.value)) else {
                 return false;
             };
             if !self.builds(t, count, element.index, x) {
@@ -365,10 +388,10 @@ impl<'f, 'p> Judge<'f, 'p> {
     #[cycle(expr)]
     fn pairs(&mut self, t: TypeId, list: &'p CorePairs) -> bool {
         for pair in &list.items {
-            let Some(key) = self.one(&pair.key) else {
+            let Some(key) = single(self.expr(&pair.key)) else {
                 return false;
             };
-            let Some(value) = self.one(&pair.value) else {
+            let Some(value) = single(self.expr(&pair.value)) else {
                 return false;
             };
             if !self.pairs_with(t, key, value) {
@@ -415,7 +438,7 @@ impl<'f, 'p> Judge<'f, 'p> {
                 })
             }
             Callee::Value(e) => {
-                let t = self.one(e)?;
+                let t = single(self.expr(e))?;
                 match under(self.table(), t) {
                     Some(GoType::Func(sig)) => Some(by_signature(sig)),
                     _ => None,
@@ -426,21 +449,11 @@ impl<'f, 'p> Judge<'f, 'p> {
                 package,
                 receiver,
             } => {
-                let t = self.one(receiver)?;
+                let t = single(self.expr(receiver))?;
                 let sig = interface_method(self.facts, t, name.as_bytes(), package.as_bytes())?;
                 Some(by_signature(sig))
             }
         }
-    }
-
-    /// What a call gives.
-    #[cycle(expr)]
-    pub fn call(&mut self, callee: &'p Callee, operands: &'p CoreExprs) -> Option<&'p [TypeId]> {
-        let found = self.callee(callee)?;
-        if !self.exprs(operands, found.wanted) {
-            return None;
-        }
-        Some(found.results)
     }
 
     /// The type of what lies at a place.
@@ -450,7 +463,7 @@ impl<'f, 'p> Judge<'f, 'p> {
             PlaceForm::Local(v) => self.local(*v),
             PlaceForm::Global(id) => self.global(*id),
             PlaceForm::Deref(e) => {
-                let x = self.one(e)?;
+                let x = single(self.expr(e))?;
                 self.target(x)
             }
             PlaceForm::Field {
@@ -467,7 +480,7 @@ impl<'f, 'p> Judge<'f, 'p> {
                 index,
             } => {
                 let at = self.place(place)?;
-                let i = self.one(index)?;
+                let i = single(self.expr(index))?;
                 self.elem_place(*array_type, at, i)
             }
             PlaceForm::SliceElem {
@@ -475,8 +488,8 @@ impl<'f, 'p> Judge<'f, 'p> {
                 operand,
                 index,
             } => {
-                let x = self.one(operand)?;
-                let i = self.one(index)?;
+                let x = single(self.expr(operand))?;
+                let i = single(self.expr(index))?;
                 self.slice_place(*slice_type, x, i)
             }
         }
@@ -503,6 +516,22 @@ impl<'f, 'p> Judge<'f, 'p> {
             Some(at) => self.facts.has(*ty) && self.is_gate_field(*struct_type, *number, at),
             None => false,
         }
+    }
+}
+
+impl<'f, 'p> Judge<'f, 'p> {
+    /// The type of an expression that gives one value.
+    pub fn one(&mut self, e: &'p CoreExpr) -> Option<TypeId> {
+        single(self.expr(e))
+    }
+
+    /// What a call gives.
+    pub fn call(&mut self, callee: &'p Callee, operands: &'p CoreExprs) -> Option<&'p [TypeId]> {
+        let found = self.callee(callee)?;
+        if !self.exprs(operands, found.wanted) {
+            return None;
+        }
+        Some(found.results)
     }
 }
 

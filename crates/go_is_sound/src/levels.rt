@@ -4,7 +4,34 @@
 
 use go_type::types::{FieldRow, GoType, IntName, TypeId};
 use go_type::{TypeTable, int_id};
-use go_values::level::{level_at, underlying};
+
+/// The level of a type, where the table has it.
+pub fn level_at(table: &TypeTable, t: TypeId) -> Option<&GoType> {
+    if t.0 < table.len() {
+        Some(table.get(t))
+    } else {
+        None
+    }
+}
+
+/// The underlying type; of an id that is none of the table's, the id itself.
+pub fn underlying(table: &TypeTable, t: TypeId) -> TypeId {
+    if t.0 < table.len() {
+        table.underlying(t)
+    } else {
+        t
+    }
+}
+
+/// Whether values of the type can be compared.
+pub fn is_comparable(table: &TypeTable, t: TypeId) -> bool {
+    t.0 < table.len() && table.is_finite(t) && table.comparable(t)
+}
+
+/// Whether the type can be that of a map's keys (own).
+pub fn is_key_type(table: &TypeTable, t: TypeId) -> bool {
+    t.0 < table.len() && table.is_finite(t) && table.key_type(t)
+}
 
 /// The level of the underlying type.
 pub fn under(table: &TypeTable, t: TypeId) -> Option<&GoType> {

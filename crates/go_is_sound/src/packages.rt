@@ -104,12 +104,16 @@ pub fn inits_are_sound(facts: &Facts, row: &PackageRow) -> bool {
 
 // The variable that holds the initialiser of the one at this place, which stands before it or is it.
 fn has_holder(vars: &[PackageVar], at: usize) -> bool {
-    let x = &vars[at];
+    let Some(x) = vars.get(at) else {
+        return false;
+    };
     if x.first == x.number {
         return true;
     }
     'before: for k in 0..at {
-        let y = &vars[at - 1 - k];
+        let Some(y) = vars.get(at - 1 - k) else {
+            return false;
+        };
         if y.package == x.package && y.number == x.first {
             return y.first == y.number;
         }
@@ -187,6 +191,13 @@ fn gives_all(given: Given<'_>, types: &[TypeId]) -> bool {
     true
 }
 
+fn given_type(given: Given<'_>, t: TypeId) -> bool {
+    match given.one() {
+        Some(found) => found.0 == t.0,
+        None => false,
+    }
+}
+
 // One value for each variable that the initialiser sets.
 fn initialises<'f, 'p>(
     judge: &mut Judge<'f, 'p>,
@@ -198,7 +209,7 @@ fn initialises<'f, 'p>(
         return Ok(false);
     };
     if given.len() == 1 {
-        return Ok(x.first == x.number && gives_all(given, &[x.ty]) && is_alone(judge, x, at));
+        return Ok(x.first == x.number && given_type(given, x.ty) && is_alone(judge, x, at));
     }
     let types = set_types(
         judge.alloc,
@@ -211,7 +222,10 @@ fn initialises<'f, 'p>(
 
 // Whether the next variable has an initialiser of its own.
 fn is_alone(judge: &Judge, x: &PackageVar, at: usize) -> bool {
-    match judge.facts.program.globals.items.as_slice().get(at + 1) {
+    let Some(next) = at.checked_add(1) else {
+        return false;
+    };
+    match judge.facts.program.globals.items.as_slice().get(next) {
         Some(y) => y.first != x.number || y.package != x.package,
         None => true,
     }

@@ -7,19 +7,17 @@ use crate::conversions::{goes_into, is_assertion, is_conversion, slices_to};
 use crate::given::Given;
 use crate::judge::Judge;
 use crate::levels::{
-    array_element, channel_element, field, has_capacity, has_length, is_bool, is_empty_interface,
-    is_gate, is_int, is_interface, is_map, is_ordered, is_text, map_parts, pointed, points_to,
-    slice_element, under,
+    array_element, channel_element, field, has_capacity, has_length, is_bool, is_comparable,
+    is_empty_interface, is_gate, is_int, is_interface, is_map, is_ordered, is_text, level_at,
+    map_parts, pointed, points_to, slice_element, under,
 };
 use crate::methods::{answers_to, interface_method};
 use crate::operators::{fits, is_arithmetic, is_order, is_shift, is_unary};
 use gj_base::Op;
 use go_core::node::{Constant, GlobalId, MethodName, VarId};
 use go_core::tree::FuncId;
-use go_layouts::holds::is_comparable;
 use go_type::int_id;
 use go_type::types::{FieldRow, GoType, IntName, Sig, TypeId};
-use go_values::level::level_at;
 
 /// The type that a node gives where a test holds.
 pub fn when<'p>(test: bool, t: TypeId) -> Option<Given<'p>> {

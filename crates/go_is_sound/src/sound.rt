@@ -2,17 +2,15 @@
 
 use crate::facts::{Facts, Owner, add_vars, facts_of, greatest, no_vars};
 use crate::functions::{add_func, func_is_sound, is_plain_func, judge_of};
-use crate::levels::is_text;
+use crate::levels::{is_key_type, is_text, level_at, map_parts};
 use crate::methods::{has_plain_row, row_is_alone, row_is_sound};
 use crate::packages::{
     imports_are_sound, inits_are_sound, numbers_are_sound, paths_differ, var_is_sound,
 };
 use gj_base::NoMemory;
 use go_core::program::Program;
-use go_layouts::holds::is_key_type;
 use go_type::types::{GoType, TypeId};
 use go_type::{STR, TypeTable};
-use go_values::level::level_at;
 use std::alloc::Global;
 
 // Whether a type holds no type by value that holds itself, has at most 1048576 scalars, and is no
@@ -21,7 +19,7 @@ fn type_is_good(table: &TypeTable, t: TypeId) -> bool {
     if t.0 >= table.len() || !table.is_finite(t) || table.size_of(t).is_none() {
         return false;
     }
-    match crate::levels::map_parts(table, t) {
+    match map_parts(table, t) {
         Some((key, _)) => is_key_type(table, key),
         None => true,
     }

@@ -429,27 +429,21 @@ impl<'f, 'p> Judge<'f, 'p> {
         true
     }
 
+    // What a clause receives is in scope in its body alone.
     #[cycle(stmt)]
     fn cases(&mut self, list: &'p CoreCases) -> bool {
         for c in &list.items {
-            if !self.case(&c.communication, &c.body) {
+            if !self.communication(&c.communication) {
+                return false;
+            }
+            self.set_all(vars_of(&c.communication), true);
+            let test = self.stmts(&c.body);
+            self.set_all(vars_of(&c.communication), false);
+            if !test {
                 return false;
             }
         }
         true
-    }
-
-    // What a clause receives is in scope in its body alone.
-    #[cycle(stmt)]
-    fn case(&mut self, communication: &'p Communication, body: &'p CoreStmts) -> bool {
-        if !self.communication(communication) {
-            return false;
-        }
-        let declared = vars_of(communication);
-        self.set_all(declared, true);
-        let test = self.stmts(body);
-        self.set_all(declared, false);
-        test
     }
 }
 

@@ -1,15 +1,17 @@
 //! From a folder to the end of its program's run.
 
 use bumpalo::Bump;
-use gj_base::{Files, NoMemory, Refusal, Text};
-use gj_compile::{Refused, check_folder};
+use gj_base::{Fault, Files, NoMemory, Refusal};
+use go_check::check;
 use go_core::program::{InitSteps, Program};
+use go_import::load_program;
 use go_init::init_order;
 use go_is_sound::is_sound;
+use go_load::{LoadRefusal, Packages};
 use go_operators::did::Context;
 use go_schedule::{Run, run};
 use go_state::state::{End, State};
-use go_stmt::gone_program;
+use itoa::Buffer;
 use std::alloc::Global;
 
 /// How many steps a run may have.
@@ -90,21 +92,40 @@ fn played(alloc: Global, program: &Program, seed: u64) -> Result<Ending, NoMemor
     }
 }
 
+// A fault by its number and its offset.
+fn fault_line(alloc: Global, fault: &Fault) -> Ending {
+    let mut told = Vec::new(alloc);
+    let _ = told.extend_from_slice(b"fault F");
+    let _ = told.extend_from_slice(Buffer::new().format(fault.code).as_bytes());
+    let _ = told.extend_from_slice(b" in file ");
+    let _ = told.extend_from_slice(Buffer::new().format(fault.place.file).as_bytes());
+    let _ = told.extend_from_slice(b" at ");
+    let _ = told.extend_from_slice(Buffer::new().format(fault.place.offset).as_bytes());
+    let _ = told.push(b'\n');
+    Ending {
+        status: 1,
+        printed: Vec::new(alloc),
+        told,
+    }
+}
+
+fn play_packages(alloc: Global, packages: &Packages, seed: u64) -> Ending {
+    match check(alloc, packages) {
+        Ok(program) => match played(alloc, &program, seed) {
+            Ok(ending) => ending,
+            Err(_) => Ending::told(alloc, 71, b"out of memory\n"),
+        },
+        Err(Refusal::Fault(fault)) => fault_line(alloc, &fault),
+        Err(Refusal::NoMemory) => Ending::told(alloc, 71, b"out of memory\n"),
+    }
+}
+
 /// The run of the program in a folder.
 pub fn play<F: Files>(alloc: Global, folder: &str, seed: u64, files: &mut F) -> Ending {
-    match check_folder(alloc, folder, folder, files) {
-        Ok(checked) => {
-            let found = played(alloc, &checked.program, seed);
-            gone_program(checked.program);
-            match found {
-                Ok(ending) => ending,
-                Err(_) => Ending::told(alloc, 71, b"out of memory\n"),
-            }
-        }
-        Err(Refused::Fault(_, _)) => Ending::told(alloc, 1, b"faulty\n"),
-        Err(Refused::Beyond(_, _)) => Ending::told(alloc, 1, b"faulty, beyond\n"),
-        Err(Refused::ReadFault) => Ending::told(alloc, 66, b"read failed\n"),
-        Err(Refused::NoMemory) => Ending::told(alloc, 71, b"out of memory\n"),
-        Err(Refused::Internal) => Ending::told(alloc, 70, b"internal error\n"),
+    match load_program(alloc, files, folder, folder) {
+        Ok(packages) => play_packages(alloc, &packages, seed),
+        Err(LoadRefusal::Fault(fault, _)) => fault_line(alloc, &fault),
+        Err(LoadRefusal::ReadFault) => Ending::told(alloc, 66, b"read failed\n"),
+        Err(LoadRefusal::NoMemory) => Ending::told(alloc, 71, b"out of memory\n"),
     }
 }
