@@ -120,23 +120,26 @@ pub fn stmt<'p>(b: &mut Body<'p>, s: &'p CoreStmt) {
 // A chain of `if` and `else if`, without nesting: each arm leaves the block around.
 #[cycle(stmt)]
 fn chain<'p>(b: &mut Body<'p>, end: u32, s: &'p CoreStmt) {
-    let CoreStmtForm::If {
+    if let CoreStmtForm::If {
         condition,
         when_true,
         when_false,
     } = &*s.form
-    else {
-        return stmt(b, s);
-    };
-    expr(b, condition);
-    let c = b.pop();
-    let mark = b.pool.open();
-    stmts(b, when_true);
-    leave_at(b, end);
-    let yes = b.pool.close(mark);
-    b.pool.when(c.e, yes);
-    for other in &when_false.items {
-        chain(b, end, other);
+    {
+        expr(b, condition);
+        let c = b.pop();
+        let mark = b.pool.open();
+        stmts(b, when_true);
+        leave_at(b, end);
+        let yes = b.pool.close(mark);
+        b.pool.when(c.e, yes);
+        if is_one_if(when_false) {
+            for other in &when_false.items {
+                chain(b, end, other);
+            }
+        } else {
+            stmts(b, when_false);
+        }
     }
 }
 
