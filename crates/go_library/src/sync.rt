@@ -1,8 +1,7 @@
 //! The package `sync`.
 
 /// The text of the package `sync`.
-pub const SYNC: &str =
-    r#"// Package sync lets goroutines wait for one another. Its types share their gates with their copies.
+pub const SYNC: &str = r#"// Package sync lets goroutines wait for one another. Its types share their gates with their copies.
 package sync
 
 import "internal/host"
