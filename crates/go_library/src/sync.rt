@@ -1,7 +1,8 @@
 //! The package `sync`.
 
 /// The text of the package `sync`.
-pub const SYNC: &str = r#"// Package sync lets goroutines wait for one another. Its types share their gates with their copies.
+pub const SYNC: &str = r#"// Package sync lets goroutines wait for one another.
+// Its types share their gates with their copies.
 package sync
 
 import "internal/host"
