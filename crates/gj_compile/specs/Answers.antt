@@ -1,9 +1,8 @@
--- own: what a build comes to, answer by answer, over the files as they were and as they are left.
-use Rattle.std.specs.Prelude.{◌≡◌, ◌⊎◌, ◌<◌, List, [], ℕ, false, codes, length, Some, None, IfSome, Result, Ok, Err}
+-- own: what a compile of a folder comes to, answer by answer, over the files as they were.
+use Rattle.std.specs.Prelude.{◌≡◌, ◌≢◌, ◌⊎◌, ◌<◌, List, [], ℕ, true, false, length, Some, None, IfSome, Result, Ok, Err}
 use Rattle.gj_base.specs.Tree.{Tree}
-use Rattle.gj_base.specs.Files.{FilesState, Stores}
+use Rattle.gj_base.specs.Files.{FilesState, ReadFailed}
 use Rattle.gj_base.specs.declared.fault.Fault.{Fault}
-use Rattle.gj_base.specs.declared.files.StoreError.TheVariants.{Failed}
 use Rattle.go_syntax.specs.Tree as t
 use Rattle.go_load.specs.Root.{is_too_large, IsRead}
 use Rattle.go_load.specs.Readings.{Reading, AreReadings, trees_of}
@@ -11,21 +10,22 @@ use Rattle.go_load.specs.Faults.{fault_in, stage_faults}
 use Rattle.go_load.specs.Load.{IsFaultOf, FailsToRead}
 use Rattle.go_load.specs.declared.sources.FileEntry.{FileEntry}
 use Rattle.go_core.specs.CoreTree.{CoreProgram}
+use Rattle.go_core.specs.CoreView.{program_view}
 use Rattle.go_type.specs.Tree.{Ty}
 use Rattle.go_typing.specs.Answer.{Flaw}
 use Rattle.go_packages.specs.Checked.{told, fault_of, program_of}
 use Rattle.go_stmt.specs.Checks.{fault_with}
 use Rattle.go_items.specs.ItemView.{decls_of}
 use Rattle.js_tree.specs.Script.{ScriptTree}
-use Rattle.js_tree.specs.Printed.{plain}
+use Rattle.js_tree.specs.View.{script_view}
+use Rattle.js_tree.specs.Printable.{IsPrintable}
+use Rattle.js_tree.specs.declared.tree.Script.{Script}
 use Rattle.js_prints.specs.Faithful.{Faithful}
+use Rattle.js_prints.specs.Prints.{only_prints}
 use Rattle.gj_plain.specs.Plain.{Main, plain_main}
-use Rattle.gj_command.specs.declared.build.Refused.{Refused}
-use Rattle.gj_command.specs.declared.build.Refused.TheVariants as refused
-
--- where the script is stored
-abbrev pub out_file : List ℕ
-out_file = codes "out.js"
+use Rattle.gj_compile.specs.declared.front.Checked.{Checked}
+use Rattle.gj_compile.specs.declared.refused.Refused.{Refused}
+use Rattle.gj_compile.specs.declared.refused.Refused.TheVariants as refused
 
 -- the files have no fault of a stage, and these are their trees
 pub record HaveTrees (entries : List FileEntry) (trees : List t.File) : Type 0 where
@@ -73,25 +73,45 @@ pub record AreFaulty (entries : List FileEntry) (fault : Fault) : Type 0 where
 abbrev pub IsToldFault : List FileEntry → Fault → Type 0
 IsToldFault entries fault = IsFaultOf entries fault ⊎ (AreFaulty entries fault ⊎ AreUnbuilt entries fault)
 
--- the script is faithful to the program that the folder holds, where the tree is told
-abbrev pub Compiles : List ℕ → FilesState → ScriptTree → Type 0
-Compiles folder old s = IfSome old.tree (λ tree. (program : CoreProgram) × HoldsProgram tree folder program × Faithful s program [])
-
--- the text of such a script is stored, and all other paths stay
-abbrev pub StoresScript : List ℕ → FilesState → FilesState → Type 0
-StoresScript folder old new = (s : ScriptTree) × Compiles folder old s × Stores (Ok tt) out_file (plain s) old new
-
--- a store of such a script failed
-abbrev pub FailsToStore : List ℕ → FilesState → FilesState → Type 0
-FailsToStore folder old new = (s : ScriptTree) × Compiles folder old s × Stores (Err Failed) out_file (plain s) old new
-
--- all files of the folder were read, these are their entries, and they have this fault
+-- all files of the folder were read, these are their entries, and they have this fault, which is not F0
 abbrev pub FindsFault : Fault → List FileEntry → List ℕ → FilesState → FilesState → Type 0
-FindsFault fault entries folder old new = (new ≡ old) × (0 < length entries) × IsRead old.tree folder entries × IsToldFault entries fault
+FindsFault fault entries folder old new = (new ≡ old) × (0 < length entries) × IsRead old.tree folder entries × IsToldFault entries fault × (fault.code ≢ 0)
 
-abbrev pub Builds : Result (Unit {0}) Refused → List ℕ → FilesState → FilesState → Type 0
-Builds (Ok _) folder old new = StoresScript folder old new
-Builds (Err (refused.Fault fault entries)) folder old new = FindsFault fault entries folder old new
-Builds (Err refused.ReadFault) folder old new = FailsToRead folder old new
-Builds (Err refused.WriteFault) folder old new = FailsToStore folder old new
-Builds (Err refused.NoMemory) folder old new = new ≡ old
+-- F0 is told of the folder: an import, a form that the scalar checker doesn't have, or a package that is not plain. What comes of such a folder is defined nowhere yet
+pub record IsBeyond (folder : List ℕ) (old : FilesState) : Type 0 where
+  pub entries : List FileEntry
+  pub some : 0 < length entries
+  pub read : IsRead old.tree folder entries
+  pub fault : Fault
+  pub told : IsToldFault entries fault
+  pub unbuilt : fault.code ≡ 0
+
+-- a read failed after the proved stages, or a folder was gone then
+abbrev pub FailsLater : FilesState → FilesState → Type 0
+FailsLater old new = ReadFailed old new ⊎ (new ≡ old)
+
+-- why a folder has no script
+abbrev pub IsRefused : Refused → List ℕ → FilesState → FilesState → Type 0
+IsRefused (refused.Fault fault entries) folder old new = FindsFault fault entries folder old new
+IsRefused (refused.Beyond fault entries) folder old new = (new ≡ old) × IsBeyond folder old
+IsRefused refused.ReadFault folder old new = FailsToRead folder old new ⊎ (FailsLater old new × IsBeyond folder old)
+IsRefused refused.NoMemory folder old new = new ≡ old
+IsRefused refused.Internal folder old new = (new ≡ old) × IsBeyond folder old
+
+-- the program is that of a plain package, or the folder is beyond what is proved
+abbrev pub IsChecked : Checked → List ℕ → FilesState → Type 0
+IsChecked c folder old =
+    ((c.is_plain ≡ true) × (only_prints (program_view c.program) ≡ true) × IfSome old.tree (λ tree. HoldsProgram tree folder (program_view c.program)))
+    ⊎ ((c.is_plain ≡ false) × IsBeyond folder old)
+
+abbrev pub Fronts : Result Checked Refused → List ℕ → FilesState → FilesState → Type 0
+Fronts (Ok c) folder old new = (new ≡ old) × IsChecked c folder old
+Fronts (Err refused) folder old new = IsRefused refused folder old new
+
+-- the script is faithful to the program that the folder holds, where the tree is told; or the folder is beyond what is proved
+abbrev pub IsRight : ScriptTree → List ℕ → FilesState → Type 0
+IsRight s folder old = IfSome old.tree (λ tree. (program : CoreProgram) × HoldsProgram tree folder program × Faithful s program []) ⊎ IsBeyond folder old
+
+abbrev pub Compiles : Result Script Refused → List ℕ → FilesState → FilesState → Type 0
+Compiles (Ok script) folder old new = (new ≡ old) × IsPrintable (script_view script) × IsRight (script_view script) folder old
+Compiles (Err refused) folder old new = IsRefused refused folder old new

@@ -1,31 +1,34 @@
--- The stages of a build, answer by answer; only private clauses cite this file.
-use Rattle.std.specs.Prelude.{◌≡◌, ◌≤◌, ◌⊎◌, List, [], ℕ, Option, Some, None, All, Result, Ok, Err, length}
-use Rattle.gj_base.specs.Files.{FilesState, Stores}
-use Rattle.gj_base.specs.declared.files.StoreError.TheVariants.{Failed}
+-- The stages of a compile, answer by answer; only private clauses cite this file.
+use Rattle.std.specs.Prelude.{◌≡◌, ◌≢◌, ◌⊎◌, List, [], ℕ, Option, Some, None, true, false, Result, Ok, Err}
+use Rattle.gj_base.specs.Files.{FilesState}
 use Rattle.gj_base.specs.declared.fault.Fault.{Fault}
 use Rattle.gj_base.specs.declared.fault.Refusal.{Refusal}
 use Rattle.gj_base.specs.declared.fault.Refusal.TheVariants as check
 use Rattle.go_syntax.specs.Tree as t
-use Rattle.go_load.specs.Root.{file_limit}
 use Rattle.go_load.specs.Packages.{paths_view}
 use Rattle.go_load.specs.declared.sources.FileEntry.{FileEntry}
+use Rattle.go_load.specs.declared.packages.Packages.{Packages}
+use Rattle.go_load.specs.declared.packages.LoadRefusal.{LoadRefusal}
+use Rattle.go_load.specs.declared.packages.LoadRefusal.TheVariants as load
 use Rattle.go_typing.specs.Answer.{Flaw}
 use Rattle.go_items.specs.ItemView.{decls_of}
 use Rattle.go_packages.specs.Checked.{told, fault_of, program_of}
 use Rattle.go_stmt.specs.Checks.{root_trees, fault_with}
-use Rattle.go_load.specs.declared.packages.Packages.{Packages}
-use Rattle.go_load.specs.declared.packages.LoadRefusal.{LoadRefusal}
-use Rattle.go_load.specs.declared.packages.LoadRefusal.TheVariants as load
-use Rattle.js_tree.specs.Script.{ScriptTree}
-use Rattle.js_tree.specs.Printed.{plain}
-use Rattle.js_prints.specs.Faithful.{Faithful}
 use Rattle.go_core.specs.CoreTree.{CoreProgram}
+use Rattle.go_core.specs.CoreView.{program_view}
+use Rattle.go_core.specs.declared.program.Program.{Program}
 use Rattle.go_type.specs.Tree.{Ty}
+use Rattle.js_tree.specs.View.{script_view}
+use Rattle.js_tree.specs.Printable.{IsPrintable}
+use Rattle.js_tree.specs.declared.tree.Script.{Script}
+use Rattle.js_prints.specs.Faithful.{Faithful}
+use Rattle.js_prints.specs.Prints.{only_prints}
 use Rattle.gj_plain.specs.Plain as p
 use Rattle.gj_plain.specs.Plain.{plain_main}
-use Rattle.gj_command.specs.Answers.{out_file, unbuilt_fault}
-use Rattle.gj_command.specs.declared.build.Refused.{Refused}
-use Rattle.gj_command.specs.declared.build.Refused.TheVariants as refused
+use Rattle.gj_compile.specs.Answers.{unbuilt_fault, FailsLater}
+use Rattle.gj_compile.specs.declared.front.Checked.{Checked}
+use Rattle.gj_compile.specs.declared.refused.Refused.{Refused}
+use Rattle.gj_compile.specs.declared.refused.Refused.TheVariants as refused
 
 -- what the root declares
 abbrev pub decls_in : Packages → List t.Decl
@@ -34,26 +37,6 @@ decls_in packages = decls_of (root_trees (paths_view packages.packages))
 -- the root's `main`, where it is plain
 abbrev pub main_of : Packages → Option p.Main
 main_of packages = plain_main (root_trees (paths_view packages.packages))
-
--- the text of a script that is faithful to this program
-abbrev pub IsCompiled : CoreProgram → List ℕ → Type 0
-IsCompiled program text = (s : ScriptTree) × (text ≡ plain s) × Faithful s program []
-
--- such a text is stored
-abbrev pub StoresProgram : Result (Unit {0}) Refused → CoreProgram → FilesState → FilesState → Type 0
-StoresProgram (Ok _) program old new = (text : List ℕ) × IsCompiled program text × Stores (Ok tt) out_file text old new
-StoresProgram (Err (refused.Fault fault entries)) program old new = ⊥
-StoresProgram (Err refused.ReadFault) program old new = ⊥
-StoresProgram (Err refused.WriteFault) program old new = (text : List ℕ) × IsCompiled program text × Stores (Err Failed) out_file text old new
-StoresProgram (Err refused.NoMemory) program old new = new ≡ old
-
--- packages of which nothing is told come to this: the script of their program is stored, where the root is plain
-abbrev pub BuildsChecked : Result (Unit {0}) Refused → Packages → CoreProgram → FilesState → FilesState → Type 0
-BuildsChecked (Ok _) packages program old new = (main : p.Main) × (main_of packages ≡ Some main) × StoresProgram (Ok tt) program old new
-BuildsChecked (Err (refused.Fault fault entries)) packages program old new = (new ≡ old) × (entries ≡ packages.files) × (main_of packages ≡ None) × (fault ≡ unbuilt_fault)
-BuildsChecked (Err refused.ReadFault) packages program old new = ⊥
-BuildsChecked (Err refused.WriteFault) packages program old new = (main : p.Main) × (main_of packages ≡ Some main) × StoresProgram (Err refused.WriteFault) program old new
-BuildsChecked (Err refused.NoMemory) packages program old new = new ≡ old
 
 -- nothing is told of the packages, their root is plain, and this is its program, with the types of a table
 pub record IsHeld (packages : Packages) (program : CoreProgram) : Type 0 where
@@ -71,28 +54,69 @@ IsLeastOf ds fault = (w : Flaw) × (fault_of ds ≡ Some w) × (fault ≡ fault_
 abbrev pub IsUnbuilt : Packages → Fault → Type 0
 IsUnbuilt packages fault = (told (decls_in packages) ≡ []) × (main_of packages ≡ None) × (fault ≡ unbuilt_fault)
 
+-- F0 is told of the packages
+pub record AreBeyond (packages : Packages) : Type 0 where
+  pub fault : Fault
+  pub why : IsLeastOf (decls_in packages) fault ⊎ IsUnbuilt packages fault
+  pub unbuilt : fault.code ≡ 0
+
 -- packages without a fault of a stage come to this
-abbrev pub BuildsPackages : Result (Unit {0}) Refused → Packages → FilesState → FilesState → Type 0
-BuildsPackages (Ok _) packages old new = (program : CoreProgram) × IsHeld packages program × StoresProgram (Ok tt) program old new
-BuildsPackages (Err (refused.Fault fault entries)) packages old new = (new ≡ old) × (entries ≡ packages.files) × (IsLeastOf (decls_in packages) fault ⊎ IsUnbuilt packages fault)
-BuildsPackages (Err refused.ReadFault) packages old new = ⊥
-BuildsPackages (Err refused.WriteFault) packages old new = (program : CoreProgram) × IsHeld packages program × StoresProgram (Err refused.WriteFault) program old new
-BuildsPackages (Err refused.NoMemory) packages old new = new ≡ old
+abbrev pub FrontsPackages : Result Checked Refused → Packages → Type 0
+FrontsPackages (Ok c) packages =
+    ((c.is_plain ≡ true) × (only_prints (program_view c.program) ≡ true) × IsHeld packages (program_view c.program)) ⊎ ((c.is_plain ≡ false) × AreBeyond packages)
+FrontsPackages (Err (refused.Fault fault entries)) packages = (entries ≡ packages.files) × IsLeastOf (decls_in packages) fault × (fault.code ≢ 0)
+FrontsPackages (Err (refused.Beyond fault entries)) packages = AreBeyond packages
+FrontsPackages (Err refused.ReadFault) packages = ⊥
+FrontsPackages (Err refused.NoMemory) packages = Unit {0}
+FrontsPackages (Err refused.Internal) packages = ⊥
 
--- the refusal of a check, with the files
-abbrev pub RefusesChecked : Refusal → List FileEntry → Refused → Type 0
-RefusesChecked (check.Fault fault) entries result = result ≡ refused.Fault fault entries
-RefusesChecked check.NoMemory entries result = result ≡ refused.NoMemory
+-- what the checker of the whole profile gives
+abbrev pub GoesOn : Result Checked Refused → Type 0
+GoesOn (Ok c) = c.is_plain ≡ false
+GoesOn (Err (refused.Fault fault entries)) = ⊥
+GoesOn (Err (refused.Beyond fault entries)) = Unit {0}
+GoesOn (Err refused.ReadFault) = ⊥
+GoesOn (Err refused.NoMemory) = Unit {0}
+GoesOn (Err refused.Internal) = ⊥
 
--- the files of the fault keep their limit
-abbrev pub CanBeTold : Refused → Type 0
-CanBeTold (refused.Fault fault entries) = All (λ e. length e.bytes ≤ file_limit) entries
-CanBeTold refused.ReadFault = Unit {0}
-CanBeTold refused.WriteFault = Unit {0}
-CanBeTold refused.NoMemory = Unit {0}
+-- the same after imports were read
+abbrev pub Imports : Result Checked Refused → FilesState → FilesState → Type 0
+Imports (Ok c) old new = (c.is_plain ≡ false) × (new ≡ old)
+Imports (Err (refused.Fault fault entries)) old new = ⊥
+Imports (Err (refused.Beyond fault entries)) old new = new ≡ old
+Imports (Err refused.ReadFault) old new = FailsLater old new
+Imports (Err refused.NoMemory) old new = new ≡ old
+Imports (Err refused.Internal) old new = ⊥
 
--- the same refusal
-abbrev pub Refuses : LoadRefusal → Refused → Type 0
-Refuses (load.Fault fault entries) result = result ≡ refused.Fault fault entries
-Refuses load.ReadFault result = result ≡ refused.ReadFault
-Refuses load.NoMemory result = result ≡ refused.NoMemory
+-- what comes of a folder that the proved loader refuses
+abbrev pub FrontsUnloaded : Result Checked Refused → LoadRefusal → FilesState → FilesState → Type 0
+FrontsUnloaded r (load.Fault fault entries) old new =
+    ((fault.code ≢ 0) × (r ≡ Err (refused.Fault fault entries)) × (new ≡ old)) ⊎ ((fault.code ≡ 0) × Imports r old new)
+FrontsUnloaded r load.ReadFault old new = (r ≡ Err refused.ReadFault) × (new ≡ old)
+FrontsUnloaded r load.NoMemory old new = (r ≡ Err refused.NoMemory) × (new ≡ old)
+
+-- what the script of a program is: that of a plain package is faithful to its program
+abbrev pub Scripts : Result Script Refused → Checked → Type 0
+Scripts (Ok script) c = IsPrintable (script_view script) × (c.is_plain ≡ true → Faithful (script_view script) (program_view c.program) [])
+Scripts (Err (refused.Fault fault entries)) c = ⊥
+Scripts (Err (refused.Beyond fault entries)) c = c.is_plain ≡ false
+Scripts (Err refused.ReadFault) c = ⊥
+Scripts (Err refused.NoMemory) c = Unit {0}
+Scripts (Err refused.Internal) c = c.is_plain ≡ false
+
+-- the same for a program that only prints, and for any program
+abbrev pub ScriptsPlain : Result Script Refused → Program → Type 0
+ScriptsPlain (Ok script) program = IsPrintable (script_view script) × Faithful (script_view script) (program_view program) []
+ScriptsPlain (Err (refused.Fault fault entries)) program = ⊥
+ScriptsPlain (Err (refused.Beyond fault entries)) program = ⊥
+ScriptsPlain (Err refused.ReadFault) program = ⊥
+ScriptsPlain (Err refused.NoMemory) program = Unit {0}
+ScriptsPlain (Err refused.Internal) program = ⊥
+
+abbrev pub ScriptsAny : Result Script Refused → Type 0
+ScriptsAny (Ok script) = IsPrintable (script_view script)
+ScriptsAny (Err (refused.Fault fault entries)) = ⊥
+ScriptsAny (Err (refused.Beyond fault entries)) = Unit {0}
+ScriptsAny (Err refused.ReadFault) = ⊥
+ScriptsAny (Err refused.NoMemory) = Unit {0}
+ScriptsAny (Err refused.Internal) = Unit {0}

@@ -4,7 +4,7 @@ use crate::front::check_folder;
 use crate::refused::Refused;
 use gj_base::{Files, NoMemory, Text};
 use go_core::program::Program;
-use go_core::tree::FuncSet;
+use go_marks::marks;
 use go_stmt::gone_program;
 use std::alloc::Global;
 
@@ -27,7 +27,7 @@ pub fn blocking_names<F: Files>(
 }
 
 fn marked_names(alloc: Global, program: &Program) -> Result<Vec<Text>, NoMemory> {
-    let marked = FuncSet::new(alloc);
+    let marked = marks(alloc, program)?;
     let mut names = Vec::new(alloc);
     for id in &marked.items {
         if let Some(func) = program.funcs.items.as_slice().get(id.0 as usize) {

@@ -1,5 +1,7 @@
 //! From the files of a folder to a script.
 
+ghost use Rattle.gj_compile.specs.Answers.{Compiles};
+
 use crate::front::check_folder;
 use crate::refused::Refused;
 use crate::script::script_of;
@@ -14,6 +16,7 @@ pub fn compile<F: Files>(
     src: &str,
     files: &mut F,
 ) -> Result<Script, Refused>
+    ensures { Compiles result root.now (F.state files.old) (F.state files.new) }
 {
     match check_folder(alloc, root, src, files) {
         Ok(checked) => script_of(alloc, checked),

@@ -4,12 +4,11 @@
 //! Only where they tell that a form isn't built yet the loader of imports and the checker of the whole
 //! profile go on.
 
-ghost use Rattle.std.specs.Prelude.{◌≡◌, [], IfOk, is_some};
-ghost use Rattle.gj_compile.specs.Answers.{Fronts};
-ghost use Rattle.gj_compile.specs.Fronts.{decls_in, main_of, FrontsChecked, FrontsPackages, FrontsUnloaded, FrontsUnchecked};
+ghost use Rattle.std.specs.Prelude.{◌≡◌, [], Err, IfOk, is_some};
 ghost use Rattle.go_packages.specs.Checked.{told};
-ghost use Rattle.go_stmt.specs.Checks.{IsProgramOf, Checks};
-ghost use Rattle.std.specs.Prelude.{Err};
+ghost use Rattle.go_stmt.specs.Checks.{Checks, IsProgramOf};
+ghost use Rattle.gj_compile.specs.Answers.{Fronts};
+ghost use Rattle.gj_compile.specs.Fronts.{decls_in, main_of, FrontsPackages, FrontsUnloaded};
 
 use crate::refused::Refused;
 use crate::whole::{check_imports, check_whole};

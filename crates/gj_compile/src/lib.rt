@@ -9,6 +9,7 @@ pub mod compile;
 pub mod front;
 pub mod refused;
 pub mod script;
+mod translation;
 mod whole;
 
 pub use blocking::blocking_names;

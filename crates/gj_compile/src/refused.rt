@@ -1,5 +1,8 @@
 //! Why a folder has no script.
 
+ghost use Rattle.std.specs.Prelude.{Err};
+ghost use Rattle.gj_compile.specs.Fronts.{GoesOn};
+
 use gj_base::{Fault, NoMemory, Refusal};
 use go_load::Sources;
 
@@ -30,7 +33,7 @@ impl From<NoMemory> for Refused {
 
 /// What a refusal of a stage beyond the proved ones becomes.
 pub fn beyond(refusal: Refusal, files: Sources) -> Refused
-    ensures { IsBeyondOf refusal files result }
+    ensures { GoesOn (Err result) }
 {
     match refusal {
         Refusal::Fault(fault) => Refused::Beyond(fault, files),

@@ -1,8 +1,16 @@
 //! From a program to its script.
 
+ghost use Rattle.std.specs.Prelude.{◌≡◌, [], IfOk, true, false};
+ghost use Rattle.go_core.specs.CoreView.{program_view};
+ghost use Rattle.js_prints.specs.Faithful.{Faithful};
+ghost use Rattle.js_prints.specs.Prints.{only_prints};
+ghost use Rattle.js_tree.specs.Printable.{IsPrintable};
+ghost use Rattle.js_tree.specs.View.{script_view};
+ghost use Rattle.gj_compile.specs.Fronts.{Scripts, ScriptsPlain, ScriptsAny};
+
 use crate::front::Checked;
-use crate::refused::{Refused, beyond};
-use gj_base::{Fault, NoMemory, Place, Refusal, Text};
+use crate::refused::Refused;
+use crate::translation::{Untranslated, translated};
 use go_core::program::Program;
 use go_core::tree::{FuncSet, Order};
 use go_load::Sources;
@@ -13,6 +21,8 @@ use std::alloc::Global;
 
 /// The script of a program, which is printable; `Beyond` where its package variables need themselves.
 pub fn script_of(alloc: Global, checked: Checked) -> Result<Script, Refused>
+    requires { checked.is_plain ≡ true → only_prints (program_view checked.program) ≡ true }
+    ensures { Scripts result checked }
 {
     if checked.is_plain {
         return plain_script(alloc, checked.program);
@@ -20,16 +30,22 @@ pub fn script_of(alloc: Global, checked: Checked) -> Result<Script, Refused>
     whole_script(alloc, checked.program, checked.files)
 }
 
-// The script of a program that only prints.
+/// The script of a program that only prints.
 fn plain_script(alloc: Global, program: Program) -> Result<Script, Refused>
+    requires { only_prints (program_view program) ≡ true }
+    ensures { ScriptsPlain result program }
 {
     let made = emit(alloc, &program, &Order::new(alloc), &FuncSet::new(alloc));
     gone_program(program);
-    Ok(made?)
+    match made {
+        Ok(script) => Ok(script),
+        Err(_) => Err(Refused::NoMemory),
+    }
 }
 
-// The script of any program.
+/// The script of any program.
 fn whole_script(alloc: Global, program: Program, files: Sources) -> Result<Script, Refused>
+    ensures { ScriptsAny result }
 {
     let made = translated(alloc, &program);
     gone_program(program);
@@ -39,17 +55,4 @@ fn whole_script(alloc: Global, program: Program, files: Sources) -> Result<Scrip
         Err(Untranslated::NoMemory) => Err(Refused::NoMemory),
         Err(Untranslated::Internal) => Err(Refused::Internal),
     }
-}
-
-/// Why a program has no script.
-enum Untranslated {
-    /// The initialisation of its package variables has a cycle.
-    Fault(Fault),
-    NoMemory,
-    /// The program is not sound, or its script is not printable.
-    Internal,
-}
-
-fn translated(alloc: Global, program: &Program) -> Result<Script, Untranslated> {
-    Err(Untranslated::Fault(Fault { place: Place { file: 0, offset: 0 }, code: 0, text: Text::new(alloc) }))
 }
