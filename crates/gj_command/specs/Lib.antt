@@ -1,7 +1,8 @@
 pub mod Settings
 pub mod FaultText
 pub mod Outcome
-pub mod Answers
 pub mod Told
 pub mod Headline
-pub mod Builds
+pub mod Stored
+pub mod Refusals
+pub mod Commands

@@ -1,7 +1,7 @@
 -- own: the status that the program ends with.
 use Rattle.std.specs.Prelude.{ℕ}
 use Rattle.gj_command.specs.declared.outcome.Outcome.{Outcome}
-use Rattle.gj_command.specs.declared.outcome.Outcome.TheVariants.{Done, Ended, Fault, Usage, ReadFault, WriteFault, TooLong, BadScript, Stuck, Stopped, NoMemory}
+use Rattle.gj_command.specs.declared.outcome.Outcome.TheVariants.{Done, Ended, Fault, Usage, ReadFault, WriteFault, TooLong, BadScript, Stuck, Stopped, NoMemory, Internal}
 
 abbrev pub status_of : Outcome → ℕ
 status_of Done = 0
@@ -15,3 +15,4 @@ status_of (BadScript place) = 65
 status_of (Stuck place) = 70
 status_of (Stopped steps) = 75
 status_of NoMemory = 71
+status_of Internal = 70

@@ -10,7 +10,7 @@ abbrev pub is_folder : List ℕ → Bool
 is_folder [] = false
 is_folder (b ∷ bs) = not (b == 45)
 
--- the settings of these words, which follow the program's name; None where they have none
+-- the settings of words that are `build` and a folder alone; all others have none here
 abbrev pub settings_of : List (List ℕ) → Option Settings
 settings_of (command ∷ folder ∷ []) = if bytes_eq command (codes "build") && is_folder folder then Some (build folder) else None
 settings_of _ = None

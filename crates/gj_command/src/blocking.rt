@@ -1,5 +1,11 @@
 //! The command `blocking`: the functions that may wait.
 
+ghost use Rattle.std.specs.Prelude.{◌≡◌, ◌≢◌, List, ℕ};
+ghost use Rattle.gj_command.specs.Headline.{Leaves};
+ghost use Rattle.gj_command.specs.Commands.{IsWritten};
+ghost use Rattle.gj_command.specs.Told.{Told};
+ghost use Rattle.gj_command.specs.declared.outcome.Outcome.TheVariants.{Usage};
+
 use crate::outcome::Outcome;
 use crate::refusal::{out_of_memory, refuse, write_failed};
 use gj_base::{Files, NoMemory, Sink, SinkError, Text};
@@ -14,7 +20,9 @@ pub fn blocking<F: Files, O: Sink, E: Sink>(
     files: &mut F,
     out: &mut O,
     err: &mut E,
-) -> Outcome {
+) -> Outcome
+    ensures { (line : List ℕ) × Leaves result (F.state files.old) (F.state files.new) × (result ≢ Usage) × Told line (E.state err.old) (E.state err.new) }
+{
     match blocking_names(alloc, folder, src, files) {
         Ok(mut names) => {
             names.as_mut_slice().sort_unstable();
@@ -24,7 +32,9 @@ pub fn blocking<F: Files, O: Sink, E: Sink>(
     }
 }
 
-fn print_lines<O: Sink, E: Sink>(lines: &[Text], out: &mut O, err: &mut E) -> Outcome {
+fn print_lines<O: Sink, E: Sink>(lines: &[Text], out: &mut O, err: &mut E) -> Outcome
+    ensures { (line : List ℕ) × IsWritten result × Told line (E.state err.old) (E.state err.new) }
+{
     for line in lines {
         match print_line(line.as_bytes(), out) {
             Ok(()) => {}

@@ -1,8 +1,14 @@
 //! The command `build`: from a folder to a stored script.
 
+ghost use Rattle.std.specs.Prelude.{◌≡◌, List, ℕ, IfOk};
+ghost use Rattle.js_tree.specs.Printable.{IsPrintable};
+ghost use Rattle.js_tree.specs.View.{script_view};
+ghost use Rattle.gj_command.specs.Headline.{BuildAnswers, IsTextOf};
+ghost use Rattle.gj_command.specs.Stored.{StoresAs};
+ghost use Rattle.gj_command.specs.Told.{Told};
+
 use crate::outcome::Outcome;
-use crate::refusal::{refuse, write_failed};
-use crate::report::{OUT_OF_MEMORY, tell};
+use crate::refusal::{out_of_memory, refuse, write_failed};
 use crate::small::small;
 use gj_base::{Files, NoMemory, Sink, StoreError, Text};
 use gj_compile::compile;
@@ -25,6 +31,7 @@ pub fn build<F: Files, E: Sink>(
     files: &mut F,
     err: &mut E,
 ) -> Outcome
+    ensures { (line : List ℕ) × BuildAnswers result line folder.now out_file.now is_small (F.state files.old) (F.state files.new) × Told line (E.state err.old) (E.state err.new) }
 {
     match compile(alloc, folder, src, files) {
         Ok(script) => store(alloc, script, out_file, is_small, files, err),
@@ -32,7 +39,7 @@ pub fn build<F: Files, E: Sink>(
     }
 }
 
-// Stores the text of a script.
+/// Stores the text of a script.
 fn store<F: Files, E: Sink>(
     alloc: Global,
     script: Script,
@@ -41,23 +48,23 @@ fn store<F: Files, E: Sink>(
     files: &mut F,
     err: &mut E,
 ) -> Outcome
+    requires { IsPrintable (script_view script) }
+    ensures { (line : List ℕ) × StoresAs result line (script_view script) out_file.now is_small (F.state files.old) (F.state files.new) × Told line (E.state err.old) (E.state err.new) }
 {
     let Ok(text) = text_of(alloc, script, is_small) else {
-        tell(err, &[OUT_OF_MEMORY]);
-        return Outcome::NoMemory;
+        return out_of_memory(err);
     };
     match files.store(out_file, text.as_bytes()) {
         Ok(()) => Outcome::Done,
         Err(StoreError::Failed) => write_failed(err),
-        Err(StoreError::NoMemory) => {
-            tell(err, &[OUT_OF_MEMORY]);
-            Outcome::NoMemory
-        }
+        Err(StoreError::NoMemory) => out_of_memory(err),
     }
 }
 
-// The text of a script.
+/// The text of a script.
 fn text_of(alloc: Global, script: Script, is_small: bool) -> Result<Text, NoMemory>
+    requires { IsPrintable (script_view script) }
+    ensures { IfOk result (λ text. IsTextOf is_small (script_view script) text) }
 {
     let text = printed(alloc, &script, Style::Plain)?;
     if is_small {

@@ -1,5 +1,12 @@
 //! The command `exec`: a script that is read and run.
 
+ghost use Rattle.std.specs.Prelude.{◌≡◌, ◌≢◌, ◌≤◌, List, ℕ, length};
+ghost use Rattle.gj_words.specs.Words.{most_steps};
+ghost use Rattle.gj_command.specs.Headline.{Leaves};
+ghost use Rattle.gj_command.specs.Commands.{IsExecuted};
+ghost use Rattle.gj_command.specs.Told.{Told};
+ghost use Rattle.gj_command.specs.declared.outcome.Outcome.TheVariants.{Usage};
+
 use crate::outcome::Outcome;
 use crate::refusal::{out_of_memory, read_failed};
 use crate::report::{TOO_LONG, tell, tell_bad_script, tell_stuck};
@@ -21,7 +28,8 @@ pub fn exec<F: Files, O: Sink, E: Sink>(
     out: &mut O,
     err: &mut E,
 ) -> Outcome
-    requires { budget.steps ≤ 10 ^ 12 }
+    requires { budget.steps ≤ most_steps }
+    ensures { (line : List ℕ) × Leaves result (F.state files.old) (F.state files.new) × (result ≢ Usage) × Told line (E.state err.old) (E.state err.new) }
 {
     match files.read(alloc, file, SCRIPT_LIMIT) {
         Ok(bytes) => exec_bytes(alloc, bytes.as_slice(), budget, out, err),
@@ -43,7 +51,8 @@ fn exec_bytes<O: Sink, E: Sink>(
     err: &mut E,
 ) -> Outcome
     requires size { length bytes.now ≤ 1073741824 }
-    requires steps { budget.steps ≤ 10 ^ 12 }
+    requires steps { budget.steps ≤ most_steps }
+    ensures { (line : List ℕ) × IsExecuted result × Told line (E.state err.old) (E.state err.new) }
 {
     match read(alloc, bytes) {
         Ok(script) => match run_script(alloc, &script, budget, out, err) {

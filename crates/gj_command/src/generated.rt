@@ -1,5 +1,11 @@
 //! The command `gen`: a program with many goroutines, compiled and run.
 
+ghost use Rattle.std.specs.Prelude.{◌≡◌, ◌≢◌, ◌≤◌, List, ℕ};
+ghost use Rattle.gj_words.specs.Words.{most_size};
+ghost use Rattle.gj_command.specs.Commands.{IsGenerated, IsWritten};
+ghost use Rattle.gj_command.specs.Told.{Told};
+ghost use Rattle.gj_command.specs.declared.outcome.Outcome.TheVariants.{Usage};
+
 use crate::outcome::Outcome;
 use crate::refusal::{internal, out_of_memory, refuse, write_failed};
 use crate::run::run_script;
@@ -15,7 +21,8 @@ const STEPS: u64 = 1000000000;
 /// Compiles and runs the program with `size` goroutines, and tells how many functions it has, how many
 /// bytes it prints, the last line, and its status.
 pub fn generated<O: Sink, E: Sink>(alloc: Global, size: u32, out: &mut O, err: &mut E) -> Outcome
-    requires { size ≤ 1000 }
+    requires { size ≤ most_size }
+    ensures { (line : List ℕ) × IsGenerated result × Told line (E.state err.old) (E.state err.new) }
 {
     let Ok(mut files) = files_of(alloc, size) else {
         return out_of_memory(err);
@@ -39,7 +46,8 @@ pub fn generated<O: Sink, E: Sink>(alloc: Global, size: u32, out: &mut O, err: &
 
 // The four lines of a run.
 fn told<O: Sink, E: Sink>(size: u32, printed: &[u8], status: u8, out: &mut O, err: &mut E) -> Outcome
-    requires { size ≤ 1000 }
+    requires { size ≤ most_size }
+    ensures { (line : List ℕ) × IsWritten result × Told line (E.state err.old) (E.state err.new) }
 {
     match tell_run(size, printed, status, out) {
         Ok(()) => Outcome::Done,
@@ -49,7 +57,7 @@ fn told<O: Sink, E: Sink>(size: u32, printed: &[u8], status: u8, out: &mut O, er
 }
 
 fn tell_run<O: Sink>(size: u32, printed: &[u8], status: u8, out: &mut O) -> Result<(), SinkError>
-    requires { size ≤ 1000 }
+    requires { size ≤ most_size }
 {
     tell_number(b"functions ", size as u64 + 1, out)?;
     tell_number(b"printed ", printed.len() as u64, out)?;

@@ -1,5 +1,13 @@
 //! What a user is told where a command did not do its work.
 
+ghost use Rattle.std.specs.Prelude.{◌≡◌, ◌≤◌, All, List, ℕ, length, true};
+ghost use Rattle.go_load.specs.Root.{file_limit};
+ghost use Rattle.gj_command.specs.Headline.{IsToldOf, out_of_memory_line, write_failed_line, read_failed_line, internal_line};
+ghost use Rattle.gj_command.specs.Refusals.{CanBeTold};
+ghost use Rattle.gj_command.specs.Told.{Told};
+ghost use Rattle.gj_command.specs.declared.outcome.Outcome.TheVariants as outcome;
+ghost use Rattle.gj_compile.specs.declared.refused.Refused.TheVariants as refused;
+
 use crate::outcome::Outcome;
 use crate::report;
 use crate::report::{fault_text, tell, tell_at};
@@ -13,6 +21,8 @@ const FILE_LIMIT: usize = 4194304;
 
 /// Tells that the memory did not suffice.
 pub fn out_of_memory<E: Sink>(err: &mut E) -> Outcome
+    ensures value { result ≡ outcome.NoMemory }
+    ensures told { Told out_of_memory_line (E.state err.old) (E.state err.new) }
 {
     tell(err, &[report::OUT_OF_MEMORY]);
     Outcome::NoMemory
@@ -20,6 +30,8 @@ pub fn out_of_memory<E: Sink>(err: &mut E) -> Outcome
 
 /// Tells that a store or a write failed.
 pub fn write_failed<E: Sink>(err: &mut E) -> Outcome
+    ensures value { result ≡ outcome.WriteFault }
+    ensures told { Told write_failed_line (E.state err.old) (E.state err.new) }
 {
     tell(err, &[report::WRITE_FAILED]);
     Outcome::WriteFault
@@ -27,6 +39,8 @@ pub fn write_failed<E: Sink>(err: &mut E) -> Outcome
 
 /// Tells that a read failed.
 pub fn read_failed<E: Sink>(err: &mut E) -> Outcome
+    ensures value { result ≡ outcome.ReadFault }
+    ensures told { Told read_failed_line (E.state err.old) (E.state err.new) }
 {
     tell(err, &[report::READ_FAILED]);
     Outcome::ReadFault
@@ -34,6 +48,8 @@ pub fn read_failed<E: Sink>(err: &mut E) -> Outcome
 
 /// Tells that parts of the compiler contradict each other.
 pub fn internal<E: Sink>(err: &mut E) -> Outcome
+    ensures value { result ≡ outcome.Internal }
+    ensures told { Told internal_line (E.state err.old) (E.state err.new) }
 {
     tell(err, &[report::INTERNAL]);
     Outcome::Internal
@@ -41,6 +57,8 @@ pub fn internal<E: Sink>(err: &mut E) -> Outcome
 
 /// Tells why a folder has no script.
 pub fn refuse<E: Sink>(alloc: Global, refused: Refused, err: &mut E) -> Outcome
+    requires { CanBeTold refused }
+    ensures { (line : List ℕ) × IsToldOf refused result line × Told line (E.state err.old) (E.state err.new) }
 {
     match refused {
         Refused::ReadFault => read_failed(err),
@@ -53,6 +71,8 @@ pub fn refuse<E: Sink>(alloc: Global, refused: Refused, err: &mut E) -> Outcome
 
 /// Tells of a fault in these files.
 fn refuse_fault<E: Sink>(alloc: Global, fault: Fault, sources: &Sources, err: &mut E) -> Outcome
+    requires { All (λ e. length e.bytes ≤ file_limit) sources.now }
+    ensures { (line : List ℕ) × IsToldOf (refused.Fault fault sources.now) result line × Told line (E.state err.old) (E.state err.new) }
 {
     let Ok(text) = fault_text(alloc, &fault) else {
         return out_of_memory(err);
@@ -73,10 +93,22 @@ fn refuse_fault<E: Sink>(alloc: Global, fault: Fault, sources: &Sources, err: &m
 
 /// Tells of a fault in these files, of which nothing is proved.
 fn refuse_beyond<E: Sink>(alloc: Global, fault: Fault, sources: &Sources, err: &mut E) -> Outcome
+    ensures { (line : List ℕ) × IsToldOf (refused.Beyond fault sources.now) result line × Told line (E.state err.old) (E.state err.new) }
 {
-    let place = fault.place;
-    match sources.as_slice().get(place.file as usize) {
-        Some(entry) if entry.bytes.as_bytes().len() <= FILE_LIMIT => refuse_fault(alloc, fault, sources, err),
-        _ => internal(err),
+    if !are_short(sources) || fault.place.file as usize >= sources.as_slice().len() {
+        return internal(err);
     }
+    refuse_fault(alloc, fault, sources, err)
+}
+
+/// Whether each file keeps the limit of files.
+fn are_short(sources: &Sources) -> bool
+    ensures { result ≡ true → All (λ e. length e.bytes ≤ file_limit) sources.now }
+{
+    for entry in sources.as_slice() {
+        if entry.bytes.as_bytes().len() > FILE_LIMIT {
+            return false;
+        }
+    }
+    true
 }

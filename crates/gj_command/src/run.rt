@@ -1,5 +1,12 @@
 //! The command `run`: from a folder to what its program prints.
 
+ghost use Rattle.std.specs.Prelude.{◌≡◌, ◌≢◌, ◌≤◌, List, ℕ};
+ghost use Rattle.gj_words.specs.Words.{most_steps};
+ghost use Rattle.gj_command.specs.Headline.{Leaves};
+ghost use Rattle.gj_command.specs.Commands.{IsRun};
+ghost use Rattle.gj_command.specs.Told.{Told};
+ghost use Rattle.gj_command.specs.declared.outcome.Outcome.TheVariants.{Usage};
+
 use crate::outcome::Outcome;
 use crate::refusal::{internal, out_of_memory, refuse, write_failed};
 use crate::report::{tell, tell_stopped};
@@ -22,7 +29,8 @@ pub fn run<F: Files, O: Sink, E: Sink>(
     out: &mut O,
     err: &mut E,
 ) -> Outcome
-    requires { budget.steps ≤ 10 ^ 12 }
+    requires { budget.steps ≤ most_steps }
+    ensures { (line : List ℕ) × Leaves result (F.state files.old) (F.state files.new) × (result ≢ Usage) × Told line (E.state err.old) (E.state err.new) }
 {
     match compile(alloc, folder, src, files) {
         Ok(script) => match run_script(alloc, &script, budget, out, err) {
@@ -42,7 +50,8 @@ pub fn run_script<O: Sink, E: Sink>(
     out: &mut O,
     err: &mut E,
 ) -> Outcome
-    requires { budget.steps ≤ 10 ^ 12 }
+    requires { budget.steps ≤ most_steps }
+    ensures { (line : List ℕ) × IsRun result × Told line (E.state err.old) (E.state err.new) }
 {
     let mut choices = SeedChoices::new(budget.seed);
     match js_run::run(alloc, script, &mut choices, out, budget.steps) {

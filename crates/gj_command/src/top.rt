@@ -1,5 +1,13 @@
 //! The top call: all that the program does.
 
+ghost use Rattle.std.specs.Prelude.{◌≡◌, ◌≢◌, List, ℕ, Some, map, string_bytes};
+ghost use Rattle.gj_words.specs.Words.{IsWithinLimits};
+ghost use Rattle.gj_command.specs.Settings.{settings_of, build};
+ghost use Rattle.gj_command.specs.Told.{Told};
+ghost use Rattle.gj_command.specs.Headline.{Answers, Headline, IsComplete, CountsStay, Leaves, TellsUsage, TreeStays};
+ghost use Rattle.gj_command.specs.Commands.{IsWritten};
+ghost use Rattle.gj_command.specs.declared.outcome.Outcome.TheVariants.{Usage};
+
 use crate::blocking::blocking;
 use crate::build::{OUT_FILE, SOURCE_FOLDER, build};
 use crate::exec::exec;
@@ -24,6 +32,18 @@ pub fn gopherjs<F: Files, O: Sink, E: Sink>(
     out: &mut O,
     err: &mut E,
 ) -> Outcome
+    // What comes of it, and the line that is told.
+    ensures answer { (line : List ℕ) × Answers result line (settings_of (map (λ w. string_bytes w) words.now)) (map (λ w. string_bytes w) words.now) (F.state files.old) (F.state files.new)
+        × Told line (E.state err.old) (E.state err.new) }
+
+    // What a stored script does, and when there is one.
+    ensures headline { Headline result (settings_of (map (λ w. string_bytes w) words.now)) (F.state files.old) (F.state files.new) }
+    ensures complete { IsComplete result (settings_of (map (λ w. string_bytes w) words.now)) (F.state files.old) (F.state files.new) }
+
+    // What stays.
+    ensures counts { CountsStay result (F.state files.old) (F.state files.new) }
+    ensures same { TreeStays result (F.state files.old) (F.state files.new) }
+    ensures out { (folder : List ℕ) → settings_of (map (λ w. string_bytes w) words.now) ≡ Some (build folder) → O.state out.new ≡ O.state out.old }
 {
     derives_one_file();
     match folder_of(words) {
@@ -32,14 +52,16 @@ pub fn gopherjs<F: Files, O: Sink, E: Sink>(
     }
 }
 
-// Does what words ask for that are not `build` and a folder.
+/// Does what words ask for that are not `build` and a folder.
 fn other_words<F: Files, O: Sink, E: Sink>(
     alloc: Global,
     words: &[String],
     files: &mut F,
     out: &mut O,
     err: &mut E,
-) -> Outcome {
+) -> Outcome
+    ensures { (line : List ℕ) × Leaves result (F.state files.old) (F.state files.new) × TellsUsage result line (map (λ w. string_bytes w) words.now) × Told line (E.state err.old) (E.state err.new) }
+{
     match read_words(alloc, words) {
         Ok(settings) => perform(alloc, settings, files, out, err),
         Err(NoSettings::Usage) => {
@@ -50,14 +72,17 @@ fn other_words<F: Files, O: Sink, E: Sink>(
     }
 }
 
-// Performs a command.
+/// Performs a command.
 fn perform<F: Files, O: Sink, E: Sink>(
     alloc: Global,
     settings: Settings<'_>,
     files: &mut F,
     out: &mut O,
     err: &mut E,
-) -> Outcome {
+) -> Outcome
+    requires { IsWithinLimits settings }
+    ensures { (line : List ℕ) × Leaves result (F.state files.old) (F.state files.new) × (result ≢ Usage) × Told line (E.state err.old) (E.state err.new) }
+{
     match settings {
         Settings::Build {
             folder,
@@ -77,7 +102,9 @@ fn perform<F: Files, O: Sink, E: Sink>(
     }
 }
 
-fn version<O: Sink, E: Sink>(out: &mut O, err: &mut E) -> Outcome {
+fn version<O: Sink, E: Sink>(out: &mut O, err: &mut E) -> Outcome
+    ensures { (line : List ℕ) × IsWritten result × Told line (E.state err.old) (E.state err.new) }
+{
     match out.write(VERSION) {
         Ok(()) => Outcome::Done,
         Err(SinkError::Failed) => write_failed(err),

@@ -1,7 +1,8 @@
 //! Words to settings. The first word is the command; `clap` reads the others.
 
-ghost use Rattle.std.specs.Prelude.{◌≤◌, IfOk};
-ghost use Rattle.gj_words.specs.Limits.{IsWithinLimits, most_steps};
+ghost use Rattle.std.specs.Prelude.{◌≡◌, ◌≤◌, Err, IfOk, false, map, string_bytes};
+ghost use Rattle.gj_words.specs.Words.{IsWithinLimits, most_steps, names_command};
+ghost use Rattle.gj_words.specs.declared.settings.NoSettings.TheVariants.{Usage};
 
 use crate::settings::{Budget, NoSettings, Settings};
 use clap::{Arg, ArgAction, ArgMatches, Command};
@@ -17,6 +18,7 @@ const MOST_SIZE: u32 = 1000;
 /// What the words after the program's name ask for.
 pub fn read_words<'a>(alloc: Global, words: &'a [String]) -> Result<Settings<'a>, NoSettings>
     ensures limits { IfOk result IsWithinLimits }
+    ensures usage { names_command (map (λ w. string_bytes w) words.now) ≡ false → result ≡ Err Usage }
 {
     let Some(command) = words.first() else {
         return Err(NoSettings::Usage);
