@@ -2,5 +2,4 @@ pub mod ToldLemmas
 pub mod NameLemmas
 pub mod FileLemmas
 pub mod PlaceLemmas
-pub mod BuildLemmas
 pub mod TopLemmas

@@ -1,5 +1,5 @@
 -- What the answers of a build say of the whole call.
-use Rattle.std.proofs.Common.{◌≡◌, ◌⊎◌, ◌<◌, ◌++◌, List, [], ◌∷◌, ℕ, false, length, get_or, map, refl, sym, ap, subst, ◌∙◌, append-nil, arith, inl, inr}
+use Rattle.std.proofs.Common.{◌≡◌, ◌⊎◌, ◌<◌, ◌++◌, List, [], ◌∷◌, ℕ, Bool, false, length, get_or, map, refl, sym, ap, subst, ◌∙◌, append-nil, arith, inl, inr}
 use Rattle.std.specs.Prelude.{Option, Some, None, IfSome, Contains, Err, option_map}
 use Rattle.std.proofs.lemmas.List.{get_or_read_under}
 use Rattle.gj_base.specs.LineColumn.{line_and_column}
@@ -22,17 +22,17 @@ use Rattle.go_packages.specs.Checked.{fault_of, least}
 use Rattle.js_tree.specs.Script.{ScriptTree}
 use Rattle.js_tree.specs.Printed.{plain}
 use Rattle.js_prints.specs.Faithful.{Faithful}
-use Rattle.gj_command.specs.Settings.{Settings, build}
 use Rattle.gj_plain.specs.Plain.{Main, plain_main}
-use Rattle.gj_command.specs.Answers.{out_file, HoldsProgram, AreUnbuilt, AreFaulty, IsToldFault, StoresScript, Builds}
-use Rattle.gj_command.specs.Headline.{BuildAnswers, Headline, IsComplete, IsToldOf}
+use Rattle.gj_compile.specs.Answers.{HoldsProgram, AreUnbuilt, AreFaulty, IsToldFault, FindsFault, IsBeyond, IsRight, IsRefused}
+use Rattle.gj_compile.specs.declared.refused.Refused.{Refused}
+use Rattle.gj_compile.specs.declared.refused.Refused.TheVariants as refused
+use Rattle.gj_command.specs.Settings.{Settings, build}
+use Rattle.gj_command.specs.Headline.{out_file, BuildAnswers, CountsStay, Headline, IsComplete, IsToldOf, Leaves, StoresScript, TreeStays}
 use Rattle.gj_command.specs.FaultText.{fault_text, fault_line, line_at}
 use Rattle.gj_command.specs.Told.{Told}
 use Rattle.gj_command.specs.declared.outcome.Outcome.{Outcome}
 use Rattle.gj_command.specs.declared.outcome.Outcome.TheVariants.{Done}
 use Rattle.gj_command.specs.declared.outcome.Outcome.TheVariants as outcome
-use Rattle.gj_command.specs.declared.build.Refused.{Refused}
-use Rattle.gj_command.specs.declared.build.Refused.TheVariants as refusal
 use Rattle.gj_command.proofs.NameLemmas.{at_front, in_none}
 use Rattle.gj_command.proofs.FileLemmas.{same_files, same_faultless}
 
@@ -44,14 +44,24 @@ appended-nil sink = ap (λ (bytes : Option (List ℕ)). record sink { bytes = by
     by None = refl
     by (Some bs) = ap (λ (cs : List ℕ). Some cs) (sym (append-nil bs))
 
--- a stored script is what the headline says
-pub headline : (settings : Option Settings) (folder : List ℕ) (old new : FilesState) → settings ≡ Some (build folder) → StoresScript folder old new → Headline Done settings old new
-headline settings folder old new named stored = λ done. by old.tree stored.1 (ap (λ (s : FilesState). s.tree) stored.2)
+same_folder : {a b : List ℕ} → Some (build a) ≡ Some (build b) → a ≡ b
+same_folder e = cc
+
+-- what a build answers is what the headline says
+pub headline : (settings : Option Settings) (folder : List ℕ) (answer : Outcome) (line : List ℕ) (old new : FilesState) → settings ≡ Some (build folder) → BuildAnswers answer line folder out_file false old new → Headline answer settings old new
+headline settings folder answer line old new named built = λ other named_too done. subst (λ (f : List ℕ). Goal f) (same_folder (sym named ∙ named_too)) (of_done (subst (λ (a : Outcome). BuildAnswers a line folder out_file false old new) done built))
   where
-    by : (o : Option Tree) → IfSome o (λ tree. (program : CoreProgram) × HoldsProgram tree folder program × Faithful stored.0 program []) → new.tree ≡ option_map (λ tree. with_file tree out_file (plain stored.0)) o
-        → IfSome o (λ tree. (folder : List ℕ) × (program : CoreProgram) × (s : ScriptTree) × (settings ≡ Some (build folder)) × HoldsProgram tree folder program × Faithful s program [] × (new.tree ≡ Some (with_file tree out_file (plain s))))
-    by None c e = c
-    by (Some tree) c e = (folder, c.0, stored.0, named, c.1, c.2, e)
+    Goal : List ℕ → Type 0
+    Goal f = IfSome old.tree (λ tree. (s : ScriptTree) × (new.tree ≡ Some (with_file tree out_file (plain s))) × (((program : CoreProgram) × HoldsProgram tree f program × Faithful s program []) ⊎ IsBeyond f old))
+
+    by : (o : Option Tree) (s : ScriptTree) (text : List ℕ) → text ≡ plain s → IfSome o (λ tree. (program : CoreProgram) × HoldsProgram tree folder program × Faithful s program []) ⊎ IsBeyond folder old → new.tree ≡ option_map (λ tree. with_file tree out_file text) o
+        → IfSome o (λ tree. (s : ScriptTree) × (new.tree ≡ Some (with_file tree out_file (plain s))) × (((program : CoreProgram) × HoldsProgram tree folder program × Faithful s program []) ⊎ IsBeyond folder old))
+    by None s text is right stored = tt
+    by (Some tree) s text is (inl right) stored = (s, stored ∙ ap (λ (bytes : List ℕ). Some (with_file tree out_file bytes)) is, inl right)
+    by (Some tree) s text is (inr beyond) stored = (s, stored ∙ ap (λ (bytes : List ℕ). Some (with_file tree out_file bytes)) is, inr beyond)
+
+    of_done : BuildAnswers Done line folder out_file false old new → Goal folder
+    of_done (stores, none) = by old.tree stores.0 stores.1 (stores.2.0 refl) stores.2.1 (ap (λ (s : FilesState). s.tree) stores.2.2)
 
 -- a folder of which a file was read has `.go` files
 never_empty : (tree : Tree) (folder : List ℕ) (entries : List FileEntry) → 0 < length entries → IsRead (Some tree) folder entries → AreGoFiles tree folder [] → ⊥
@@ -97,56 +107,126 @@ not_faulty one tree folder program fault entries holds read told =
     by (inr (inl faulty)) = wrong faulty
     by (inr (inr unbuilt)) = unlike unbuilt
 
--- a build that stored nothing whole is complete
-pub completes : DerivesOneFile → (settings : Option Settings) (folder : List ℕ) (refused : Refused) (answer : Outcome) (line : List ℕ) (old new : FilesState) → settings ≡ Some (build folder)
-    → IsToldOf refused answer line → Builds (Err refused) folder old new → IsComplete answer settings old new
-completes one settings folder refused answer line old new named told built = λ other named_too. by refused told built other (same_folder (sym named ∙ named_too))
+-- a folder that holds a program is not beyond what is proved
+pub not_beyond : DerivesOneFile → (tree : Tree) (folder : List ℕ) (program : CoreProgram) (old : FilesState) → old.tree ≡ Some tree → HoldsProgram tree folder program → IsBeyond folder old → ⊥
+not_beyond one tree folder program old told holds beyond =
+    not_faulty one tree folder program beyond.fault beyond.entries holds (subst (λ (o : Option Tree). IsRead o folder beyond.entries) told beyond.read) beyond.told
+
+-- what a build answers is complete
+pub completes : DerivesOneFile → (settings : Option Settings) (folder : List ℕ) (answer : Outcome) (line : List ℕ) (old new : FilesState) → settings ≡ Some (build folder)
+    → BuildAnswers answer line folder out_file false old new → IsComplete answer settings old new
+completes one settings folder answer line old new named built = λ other named_too. subst (λ (f : List ℕ). Goal old.tree f answer) (same_folder (sym named ∙ named_too)) (by answer built)
   where
-    same_folder : {a b : List ℕ} → Some (build a) ≡ Some (build b) → a ≡ b
-    same_folder e = cc
+    Goal : Option Tree → List ℕ → Outcome → Type 0
+    Goal o f a = IfSome o (λ tree. (program : CoreProgram) → HoldsProgram tree f program → (Rose old.reading_faults new.reading_faults → ⊥) → (Rose old.storing_faults new.storing_faults → ⊥) → (a ≡ Done) ⊎ (a ≡ outcome.NoMemory))
 
-    Goal : Option Tree → List ℕ → Type 0
-    Goal o other = IfSome o (λ tree. (program : CoreProgram) → HoldsProgram tree other program → (Rose old.reading_faults new.reading_faults → ⊥) → (Rose old.storing_faults new.storing_faults → ⊥) → (answer ≡ Done) ⊎ (answer ≡ outcome.NoMemory))
+    done : (o : Option Tree) → Goal o folder Done
+    done None = tt
+    done (Some tree) = λ program holds reads stores. inl refl
 
-    always : (o : Option Tree) (other : List ℕ) → answer ≡ outcome.NoMemory → Goal o other
-    always None other e = tt
-    always (Some tree) other e = λ program holds reads stores. inr e
+    memory : (o : Option Tree) → Goal o folder outcome.NoMemory
+    memory None = tt
+    memory (Some tree) = λ program holds reads stores. inr refl
 
-    no_read : (o : Option Tree) (other : List ℕ) → Rose old.reading_faults new.reading_faults → Goal o other
-    no_read None other rose = tt
-    no_read (Some tree) other rose = λ program holds reads stores. absurd (reads rose)
+    never : (a : Outcome) → ((tree : Tree) (program : CoreProgram) → old.tree ≡ Some tree → HoldsProgram tree folder program → (Rose old.reading_faults new.reading_faults → ⊥) → (Rose old.storing_faults new.storing_faults → ⊥) → ⊥) → Goal old.tree folder a
+    never a no = in_tree old.tree refl
+      where
+        in_tree : (o : Option Tree) → old.tree ≡ o → Goal o folder a
+        in_tree None is = tt
+        in_tree (Some tree) is = λ program holds reads stores. absurd (no tree program is holds reads stores)
 
-    no_store : (o : Option Tree) (other : List ℕ) → Rose old.storing_faults new.storing_faults → Goal o other
-    no_store None other rose = tt
-    no_store (Some tree) other rose = λ program holds reads stores. absurd (stores rose)
+    beyond : (a : Outcome) → IsBeyond folder old → Goal old.tree folder a
+    beyond a is = never a (λ tree program told holds reads stores. not_beyond one tree folder program old told holds is)
 
-    no_file : (o : Option Tree) (other : List ℕ) → IfSome o (λ tree. AreGoFiles tree other []) → Goal o other
-    no_file None other none = tt
-    no_file (Some tree) other none = λ program holds reads stores. absurd (never_empty tree other holds.entries holds.have.some holds.read none)
-
-    no_fault : (o : Option Tree) (other : List ℕ) (fault : Fault) (entries : List FileEntry) → IsRead o other entries → IsToldFault entries fault → Goal o other
-    no_fault None other fault entries read told = tt
-    no_fault (Some tree) other fault entries read told = λ program holds reads stores. absurd (not_faulty one tree other program fault entries holds read told)
-
-    by : (r : Refused) → IsToldOf r answer line → Builds (Err r) folder old new → (other : List ℕ) → folder ≡ other → Goal old.tree other
-    by refusal.ReadFault told built other same = elim built [
-      | inl failed ↦ no_read old.tree other failed.0
-      | inr none ↦ no_file old.tree other (subst (λ (f : List ℕ). IfSome old.tree (λ tree. AreGoFiles tree f [])) same none.1)
+    by : (a : Outcome) → BuildAnswers a line folder out_file false old new → Goal old.tree folder a
+    by Done built = done old.tree
+    by (outcome.Fault fault) (found, entries, is, told, why) = elim why [
+      | inl finds ↦ never (outcome.Fault fault) (λ tree program there holds reads stores. not_faulty one tree folder program found entries holds (subst (λ (o : Option Tree). IsRead o folder entries) there finds.2) finds.3)
+      | inr other ↦ beyond (outcome.Fault fault) other.1
     ]
-    by refusal.WriteFault told built other same = no_store old.tree other built.2.0
-    by refusal.NoMemory told built other same = always old.tree other told.0
-    by (refusal.Fault fault entries) told built other same = elim told [
-      | inl is ↦ no_fault old.tree other fault entries (subst (λ (f : List ℕ). IsRead old.tree f entries) same built.2) built.3
-      | inr memory ↦ always old.tree other memory.0
+    by outcome.ReadFault (why, told) = elim why [
+      | inl fails ↦ elim fails [
+        | inl failed ↦ never outcome.ReadFault (λ tree program there holds reads stores. reads failed.0)
+        | inr none ↦ never outcome.ReadFault (λ tree program there holds reads stores. never_empty tree folder holds.entries holds.have.some holds.read (subst (λ (o : Option Tree). IfSome o (λ tree. AreGoFiles tree folder [])) there none.1))
+      ]
+      | inr later ↦ beyond outcome.ReadFault later.1
     ]
+    by outcome.WriteFault (fails, told) = never outcome.WriteFault (λ tree program there holds reads stores. stores fails.2.2.0)
+    by outcome.NoMemory built = memory old.tree
+    by outcome.Internal (same, is, told) = beyond outcome.Internal is
+    by (outcome.Ended code) none = absurd none
+    by outcome.Usage none = absurd none
+    by outcome.TooLong none = absurd none
+    by (outcome.BadScript place) none = absurd none
+    by (outcome.Stuck place) none = absurd none
+    by (outcome.Stopped steps) none = absurd none
 
--- what is told of a build that stored nothing whole
-pub answers_of : (refused : Refused) (answer : Outcome) (line folder : List ℕ) (old new : FilesState) → IsToldOf refused answer line → Builds (Err refused) folder old new → BuildAnswers answer line folder old new
-answers_of refusal.ReadFault answer line folder old new told built = subst (λ (a : Outcome). BuildAnswers a line folder old new) (sym told.0) (built, told.1)
-answers_of refusal.WriteFault answer line folder old new told built = subst (λ (a : Outcome). BuildAnswers a line folder old new) (sym told.0) (built, told.1)
-answers_of refusal.NoMemory answer line folder old new told built = subst (λ (a : Outcome). BuildAnswers a line folder old new) (sym told.0) (built, told.1)
-answers_of (refusal.Fault fault entries) answer line folder old new (inl told) built = subst (λ (a : Outcome). BuildAnswers a line folder old new) (sym told.0) (fault, entries, built, refl, told.1)
-answers_of (refusal.Fault fault entries) answer line folder old new (inr told) built = subst (λ (a : Outcome). BuildAnswers a line folder old new) (sym told.0) (built.0, told.1)
+-- what a build leaves
+pub leaves : (answer : Outcome) (line folder path : List ℕ) (small : Bool) (old new : FilesState) → BuildAnswers answer line folder path small old new → Leaves answer old new
+leaves Done line folder path small old new (stores, none) = inr (path, stores.1, stores.2.2)
+leaves (outcome.Fault fault) line folder path small old new (found, entries, is, told, why) = elim why [
+  | inl finds ↦ finds.0
+  | inr other ↦ other.0
+]
+leaves outcome.ReadFault line folder path small old new (why, told) = elim why [
+  | inl fails ↦ elim fails [
+    | inl failed ↦ inl failed
+    | inr none ↦ inr none.0
+  ]
+  | inr later ↦ later.0
+]
+leaves outcome.WriteFault line folder path small old new (fails, told) = inr (path, fails.1, fails.2.2)
+leaves outcome.NoMemory line folder path small old new (same, told) = same
+leaves outcome.Internal line folder path small old new (same, is, told) = same
+leaves (outcome.Ended code) line folder path small old new none = absurd none
+leaves outcome.Usage line folder path small old new none = absurd none
+leaves outcome.TooLong line folder path small old new none = absurd none
+leaves (outcome.BadScript place) line folder path small old new none = absurd none
+leaves (outcome.Stuck place) line folder path small old new none = absurd none
+leaves (outcome.Stopped steps) line folder path small old new none = absurd none
+
+-- and so which counts stay
+pub counts : (answer : Outcome) (old new : FilesState) → Leaves answer old new → CountsStay answer old new
+counts Done old new (inl same) = (ap (λ (s : FilesState). s.reading_faults) same, ap (λ (s : FilesState). s.storing_faults) same)
+counts Done old new (inr (path, text, stored)) = (ap (λ (s : FilesState). s.reading_faults) stored, ap (λ (s : FilesState). s.storing_faults) stored)
+counts outcome.ReadFault old new left = tt
+counts outcome.WriteFault old new left = tt
+counts (outcome.Fault fault) old new same = (ap (λ (s : FilesState). s.reading_faults) same, ap (λ (s : FilesState). s.storing_faults) same)
+counts outcome.NoMemory old new same = (ap (λ (s : FilesState). s.reading_faults) same, ap (λ (s : FilesState). s.storing_faults) same)
+counts outcome.Internal old new same = (ap (λ (s : FilesState). s.reading_faults) same, ap (λ (s : FilesState). s.storing_faults) same)
+counts (outcome.Ended code) old new same = (ap (λ (s : FilesState). s.reading_faults) same, ap (λ (s : FilesState). s.storing_faults) same)
+counts outcome.Usage old new same = (ap (λ (s : FilesState). s.reading_faults) same, ap (λ (s : FilesState). s.storing_faults) same)
+counts outcome.TooLong old new same = (ap (λ (s : FilesState). s.reading_faults) same, ap (λ (s : FilesState). s.storing_faults) same)
+counts (outcome.BadScript place) old new same = (ap (λ (s : FilesState). s.reading_faults) same, ap (λ (s : FilesState). s.storing_faults) same)
+counts (outcome.Stuck place) old new same = (ap (λ (s : FilesState). s.reading_faults) same, ap (λ (s : FilesState). s.storing_faults) same)
+counts (outcome.Stopped steps) old new same = (ap (λ (s : FilesState). s.reading_faults) same, ap (λ (s : FilesState). s.storing_faults) same)
+
+-- and what of the tree
+pub stays : (answer : Outcome) (old new : FilesState) → Leaves answer old new → TreeStays answer old new
+stays Done old new left = tt
+stays outcome.WriteFault old new left = tt
+stays outcome.ReadFault old new (inl failed) = failed.1
+stays outcome.ReadFault old new (inr same) = ap (λ (s : FilesState). s.tree) same
+stays (outcome.Fault fault) old new same = ap (λ (s : FilesState). s.tree) same
+stays outcome.NoMemory old new same = ap (λ (s : FilesState). s.tree) same
+stays outcome.Internal old new same = ap (λ (s : FilesState). s.tree) same
+stays (outcome.Ended code) old new same = ap (λ (s : FilesState). s.tree) same
+stays outcome.Usage old new same = ap (λ (s : FilesState). s.tree) same
+stays outcome.TooLong old new same = ap (λ (s : FilesState). s.tree) same
+stays (outcome.BadScript place) old new same = ap (λ (s : FilesState). s.tree) same
+stays (outcome.Stuck place) old new same = ap (λ (s : FilesState). s.tree) same
+stays (outcome.Stopped steps) old new same = ap (λ (s : FilesState). s.tree) same
+
+-- what is told of a folder that has no script
+pub answers_of : (refused : Refused) (answer : Outcome) (line folder path : List ℕ) (small : Bool) (old new : FilesState) → IsToldOf refused answer line → IsRefused refused folder old new → BuildAnswers answer line folder path small old new
+answers_of refused.ReadFault answer line folder path small old new told why = subst (λ (a : Outcome). BuildAnswers a line folder path small old new) (sym told.0) (why, told.1)
+answers_of refused.NoMemory answer line folder path small old new told why = subst (λ (a : Outcome). BuildAnswers a line folder path small old new) (sym told.0) (why, told.1)
+answers_of refused.Internal answer line folder path small old new told why = subst (λ (a : Outcome). BuildAnswers a line folder path small old new) (sym told.0) (why.0, why.1, told.1)
+answers_of (refused.Fault fault entries) answer line folder path small old new (inl told) why = subst (λ (a : Outcome). BuildAnswers a line folder path small old new) (sym told.0) (fault, entries, refl, told.1, inl why)
+answers_of (refused.Fault fault entries) answer line folder path small old new (inr told) why = subst (λ (a : Outcome). BuildAnswers a line folder path small old new) (sym told.0) (why.0, told.1)
+answers_of (refused.Beyond fault entries) answer line folder path small old new (inl told) why = subst (λ (a : Outcome). BuildAnswers a line folder path small old new) (sym told.0) (fault, entries, refl, told.1, inr why)
+answers_of (refused.Beyond fault entries) answer line folder path small old new (inr (inl told)) why = subst (λ (a : Outcome). BuildAnswers a line folder path small old new) (sym told.0) (why.0, told.1)
+answers_of (refused.Beyond fault entries) answer line folder path small old new (inr (inr told)) why = subst (λ (a : Outcome). BuildAnswers a line folder path small old new) (sym told.0) (why.0, why.1, told.1)
 
 -- a fault in a file is told by its line
 pub told_at : (es : List FileEntry) (fault : Fault) (entry : FileEntry) (text : List ℕ) (old new : SinkState) → entry ≡ get_or es fault.place.file entry → fault.place.file < length es → text ≡ fault_text fault
