@@ -3,3 +3,4 @@ pub mod NameLemmas
 pub mod FileLemmas
 pub mod PlaceLemmas
 pub mod TopLemmas
+pub mod BuildLemmas

@@ -29,6 +29,7 @@ use Rattle.gj_compile.specs.declared.refused.Refused.TheVariants as refused
 use Rattle.gj_command.specs.Settings.{Settings, build}
 use Rattle.gj_command.specs.Headline.{out_file, BuildAnswers, CountsStay, Headline, IsComplete, IsToldOf, Leaves, StoresScript, TreeStays}
 use Rattle.gj_command.specs.FaultText.{fault_text, fault_line, line_at}
+use Rattle.gj_command.specs.Stored.{StoresAs}
 use Rattle.gj_command.specs.Told.{Told}
 use Rattle.gj_command.specs.declared.outcome.Outcome.{Outcome}
 use Rattle.gj_command.specs.declared.outcome.Outcome.TheVariants.{Done}
@@ -154,6 +155,25 @@ completes one settings folder answer line old new named built = λ other named_t
     by outcome.WriteFault (fails, told) = never outcome.WriteFault (λ tree program there holds reads stores. stores fails.2.2.0)
     by outcome.NoMemory built = memory old.tree
     by outcome.Internal (same, is, told) = beyond outcome.Internal is
+    by (outcome.Ended code) none = absurd none
+    by outcome.Usage none = absurd none
+    by outcome.TooLong none = absurd none
+    by (outcome.BadScript place) none = absurd none
+    by (outcome.Stuck place) none = absurd none
+    by (outcome.Stopped steps) none = absurd none
+
+-- what comes of a script that is stored
+pub builds : (answer : Outcome) (line : List ℕ) (s : ScriptTree) (folder path : List ℕ) (small : Bool) (old mid new : FilesState) → mid ≡ old → IsRight s folder old → StoresAs answer line s path small mid new
+    → BuildAnswers answer line folder path small old new
+builds answer line s folder path small old mid new same right stored = by answer (subst (λ (f : FilesState). StoresAs answer line s path small f new) same stored)
+  where
+    by : (a : Outcome) → StoresAs a line s path small old new → BuildAnswers a line folder path small old new
+    by Done (text, is, stored, none) = ((s, text, is, right, stored), none)
+    by outcome.WriteFault (text, is, failed, told) = ((s, text, is, right, failed), told)
+    by outcome.NoMemory (stays, told) = (stays, told)
+    by (outcome.Fault fault) none = absurd none
+    by outcome.ReadFault none = absurd none
+    by outcome.Internal none = absurd none
     by (outcome.Ended code) none = absurd none
     by outcome.Usage none = absurd none
     by outcome.TooLong none = absurd none

@@ -191,3 +191,8 @@ compiles r c folder old new same checked scripts = by r scripts checked
     by (Err refused.ReadFault) none checked = absurd none
     by (Err refused.NoMemory) u checked = same
     by (Err refused.Internal) unlike checked = (same, beyond checked unlike)
+
+-- the program of a plain package, where it is one, only prints
+pub prints_of : (c : Checked) (folder : List ℕ) (old : FilesState) → IsChecked c folder old → c.is_plain ≡ true → only_prints (program_view c.program) ≡ true
+prints_of c folder old (inl plain) is = plain.1
+prints_of c folder old (inr other) is = let bad : true ≡ false = sym is ∙ other.0 in absurd (cc)

@@ -4,7 +4,7 @@ use Rattle.go_load.specs.declared.sources.FileEntry.{FileEntry}
 use Rattle.gj_command.specs.FaultText.{fault_line}
 use Rattle.gj_command.specs.declared.outcome.Outcome.TheVariants as outcome
 use Rattle.gj_command.proofs.TopLemmas.{told_at}
-use Rattle.gj_command.proofs.top.refuse_fault.Goals as goal
+use Rattle.gj_command.proofs.refusal.refuse_fault.Goals as goal
 
 pub returns : goal.returns
 returns g c =
