@@ -3,9 +3,10 @@
 
 use crate::top::{name_number, predeclared};
 use gj_base::NoMemory;
-use go_core::program::Program;
+use go_core::program::{MethodRow, Program};
 use go_type::types::TypeId;
 use js_body::Body;
+use js_facts::Held;
 use js_pool::{Item, Name, Node, Pool};
 use js_prelude::Needs;
 use std::alloc::Global;
@@ -74,6 +75,8 @@ impl Reach {
             next_row: Vec::new(alloc),
             needs: Needs::new(alloc),
         };
+        all.needs.errors = false;
+        all.needs.wide = false;
         for _ in 0..LETTERS.len() {
             all.by_number.push(Vec::new(alloc))?;
         }
@@ -235,21 +238,39 @@ impl Reach {
         }
     }
 
-    // The methods of a dynamic type, and its predeclared type.
+    // The methods of a dynamic type, and its predeclared type; a report may tell its values.
     fn need_type(&mut self, b: &Body<'_>, t: u32) -> Result<(), NoMemory> {
         let mut row = get(self.first_row.as_slice(), t as usize);
         for _ in 0..self.next_row.len() {
             if row == 0 {
                 break;
             }
-            self.need(b"$r", row - 1)?;
+            self.need_row(b, row - 1)?;
             row = get(self.next_row.as_slice(), (row - 1) as usize);
+        }
+        if let Held::Wide(_) = b.held(TypeId(t as u64)) {
+            self.needs.wide = true;
+            self.needs.need(b"$str64");
         }
         if let Some(plain) = predeclared(b, TypeId(t as u64)) {
             return self.need(b"$y", name_number(plain.0));
         }
         Ok(())
     }
+
+    fn need_row(&mut self, b: &Body<'_>, number: u32) -> Result<(), NoMemory> {
+        if let Some(row) = b.facts.method_row(number)
+            && is_error(row)
+        {
+            self.needs.errors = true;
+        }
+        self.need(b"$r", number)
+    }
+}
+
+// Whether a report calls a method.
+fn is_error(row: &MethodRow) -> bool {
+    row.name.as_bytes() == b"Error".as_slice()
 }
 
 // How many expressions there were after an item.
