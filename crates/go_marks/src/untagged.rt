@@ -45,6 +45,9 @@ impl Untagged {
 
     fn key(&self, alloc: Global, table: &TypeTable, t: TypeId) -> Result<Text, NoMemory> {
         let mut out = Text::new(alloc);
+        if t.0 >= table.len() {
+            return Ok(out);
+        }
         match table.get(t) {
             GoType::Bool => out.push(b'b')?,
             GoType::Str => out.push(b's')?,
