@@ -143,7 +143,8 @@ func main() {
 	add := s.inner.counter.Add
 	twice := s.Twice
 	s.Add(1)
-	fmt.Println(s.counter, s.inner.counter, add(5), twice(), s.inner.Twice(), s.Twice())
+	fmt.Println(s.counter, s.inner.counter)
+	fmt.Println(add(5), twice(), s.inner.Twice(), s.Twice())
 	m := map[string]*stats{"x": {}}
 	m["x"].Add(2)
 	m["x"].inner.counter++
