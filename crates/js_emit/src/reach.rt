@@ -4,6 +4,7 @@
 use crate::top::{name_number, predeclared};
 use gj_base::NoMemory;
 use go_core::program::{MethodRow, Program};
+use go_type::predeclared::STR;
 use go_type::types::TypeId;
 use js_body::Body;
 use js_facts::Held;
@@ -260,17 +261,26 @@ impl Reach {
 
     fn need_row(&mut self, b: &Body<'_>, number: u32) -> Result<(), NoMemory> {
         if let Some(row) = b.facts.method_row(number)
-            && is_error(row)
+            && is_error(b, row)
         {
             self.needs.errors = true;
+            self.needs.errors_are_plain = !b.facts.is_marked(row.func);
         }
         self.need(b"$r", number)
     }
 }
 
 // Whether a report calls a method.
-fn is_error(row: &MethodRow) -> bool {
-    row.name.as_bytes() == b"Error".as_slice()
+fn is_error(b: &Body<'_>, row: &MethodRow) -> bool {
+    if row.name.as_bytes() != b"Error".as_slice() {
+        return false;
+    }
+    match b.facts.func(row.func) {
+        Some(f) => {
+            f.sig.params.as_slice().is_empty() && f.sig.results.as_slice() == [STR].as_slice()
+        }
+        None => false,
+    }
 }
 
 // How many expressions there were after an item.

@@ -6,7 +6,7 @@ use crate::maps::MAPS;
 use crate::memory::MEMORY;
 use crate::talk::{TALK, TURN_ALONE};
 use crate::text::TEXT;
-use crate::unwinding::{REPORT_ALONE, TOLD_NARROW, UNWINDING};
+use crate::unwinding::{REPORT_ALONE, REPORT_PLAIN, TOLD_NARROW, UNWINDING};
 use crate::word::{first_word, panic_number};
 use js_pool::{Name, Node, Pool, Stmt, Unmade};
 use js_read::{ReadRefusal, read};
@@ -33,6 +33,8 @@ pub struct Needs {
     panics: [bool; 13],
     /// Whether some type has a method `Error` that a report calls.
     pub errors: bool,
+    /// Whether these methods never wait.
+    pub errors_are_plain: bool,
     /// Whether a report may tell a number of 64 bits.
     pub wide: bool,
     /// Whether memory ran out.
@@ -48,6 +50,7 @@ impl Needs {
             work: Vec::new(alloc),
             panics: [false; 13],
             errors: true,
+            errors_are_plain: false,
             wide: true,
             failed: false,
         };
@@ -188,6 +191,7 @@ impl Needs {
         match part.name {
             b"$turn" if !self.waits() => TURN_ALONE.as_bytes(),
             b"$report" if !self.errors => REPORT_ALONE.as_bytes(),
+            b"$report" if self.errors_are_plain => REPORT_PLAIN.as_bytes(),
             b"$told" if !self.wide => TOLD_NARROW.as_bytes(),
             _ => part.text,
         }

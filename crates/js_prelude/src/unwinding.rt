@@ -107,6 +107,21 @@ function $report($f){
  $end(2,\"panic: \"+$told($f[5])+\"\\x0a\");
 }";
 
+/// `$report` in a script in which methods `Error` never wait, so that one answers at once.
+pub const REPORT_PLAIN: &'static str = "
+function $report($f){
+ var $v=$f[5];
+ if($f[1]===0){
+  $end(2,\"panic: (panic in Error)\\x0a\");
+ }
+ if($v!==null){
+  if(\"$Error.:>1,\" in $v[0][1]){
+   $end(2,\"panic: \"+$v[0][1][\"$Error.:>1,\"]($v)+\"\\x0a\");
+  }
+ }
+ $end(2,\"panic: \"+$told($v)+\"\\x0a\");
+}";
+
 /// `$told` in a script without interface values of 64 bits.
 pub const TOLD_NARROW: &'static str = "
 function $told($v){
