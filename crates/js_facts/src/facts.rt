@@ -8,7 +8,6 @@ use gj_base::{NoMemory, Text};
 use go_core::node::{CoreExpr, MethodName, Var, VarId};
 use go_core::program::{Func, MethodRow, Program};
 use go_core::tree::{FuncId, FuncSet};
-use go_marks::untagged::Untagged;
 use go_type::TypeTable;
 use go_type::types::{MethodSpec, Sig, TypeId};
 use std::alloc::Global;
@@ -38,9 +37,8 @@ pub struct Facts<'p> {
     receivers: Vec<bool>,
     taken: Vec<bool>,
     defers: Vec<bool>,
-    /// By a function type's number, tags aside: whether its functions are machines.
+    /// By a function type's number: whether its functions are machines.
     marked_types: Vec<bool>,
-    untagged: Untagged,
     /// By a type's number: whether it is the type of a value in an interface value, or asked for.
     dynamic: Vec<bool>,
     /// Rows of methods by their texts; whether the methods of a text are machines.
@@ -92,7 +90,6 @@ impl<'p> Facts<'p> {
             taken: flags(alloc, funcs)?,
             defers: flags(alloc, funcs)?,
             marked_types: flags(alloc, types)?,
-            untagged: Untagged::new(alloc, &program.types)?,
             dynamic: flags(alloc, types)?,
             rows: BTreeMap::new(alloc),
             marked_methods: BTreeMap::new(alloc),
@@ -265,7 +262,7 @@ impl<'p> Facts<'p> {
 
     /// Whether the functions of a function type are machines.
     pub fn is_marked_type(&self, t: TypeId) -> bool {
-        is_set(self.marked_types.as_slice(), self.class(t))
+        is_set(self.marked_types.as_slice(), self.under(t).0 as usize)
     }
 
     /// The underlying type's number.
@@ -273,13 +270,9 @@ impl<'p> Facts<'p> {
         underlying(self.table(), t)
     }
 
-    // Conversions leave a value as it is, and don't look at tags.
-    fn class(&self, t: TypeId) -> usize {
-        self.untagged.of(self.under(t)) as usize
-    }
-
-    fn mark_type(&mut self, t: TypeId) {
-        let n = self.class(t);
+    /// Notes that the functions of a function type are machines.
+    pub fn mark_type(&mut self, t: TypeId) {
+        let n = self.under(t).0 as usize;
         set(&mut self.marked_types, n);
     }
 
