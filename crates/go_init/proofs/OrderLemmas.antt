@@ -146,6 +146,7 @@ b_is_next = record {
   where
     not_set : Contains (2 ∷ []) 1 → ⊥
     not_set h = of_each (λ k. k ≡ 1 → ⊥) (2 ∷ []) ((λ e. cc), tt) 1 h refl
+
     earliest : (m : ℕ) (y : PackageVar) → IsReady by_need [] (2 ∷ []) m y → 1 ≤ y.number
     earliest zero y r = absurd (not_set (r.rests_on_set 1 var_b is_b a_needs_b))
     earliest (suc m) y r = omega (arith, number_at (suc m) y r.is_variable.is_variable)
@@ -158,6 +159,7 @@ a_is_next = record {
   where
     not_set : Contains (1 ∷ 2 ∷ []) 0 → ⊥
     not_set h = of_each (λ k. k ≡ 0 → ⊥) (1 ∷ 2 ∷ []) ((λ e. cc), ((λ e. cc), tt)) 0 h refl
+
     among : (m : ℕ) → (1 ≡ m) ⊎ (2 ≡ m) → Contains (1 ∷ 2 ∷ []) m
     among m (inl e) = subst (Contains (1 ∷ 2 ∷ [])) e (here 1 (2 ∷ []))
     among m (inr e) = subst (Contains (1 ∷ 2 ∷ [])) e (further 2 1 (2 ∷ []) (here 2 []))

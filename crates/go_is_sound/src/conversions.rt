@@ -87,7 +87,7 @@ fn is_typed(facts: &Facts, t: TypeId) -> bool {
 // By assignability; to an interface only from another one, since a Wrap stands for the others.
 fn is_assigned(facts: &Facts, from: TypeId, to: TypeId) -> bool {
     let table = facts.table();
-    if !facts.has(from) || !facts.has(to) || !is_typed(facts, from) {
+    if from.0 >= table.len() || to.0 >= table.len() || !is_typed(facts, from) {
         return false;
     }
     if is_interface(table, to) && !is_interface(table, from) {
@@ -104,7 +104,7 @@ pub fn is_conversion(facts: &Facts, from: TypeId, to: TypeId) -> bool {
 /// Whether an interface value can be of the type: it is an interface type, or has its methods.
 pub fn is_assertion(facts: &Facts, from: TypeId, to: TypeId) -> bool {
     let table = facts.table();
-    if !facts.has(from) || !facts.has(to) || !is_interface(table, from) {
+    if from.0 >= table.len() || to.0 >= table.len() || !is_interface(table, from) {
         return false;
     }
     is_interface(table, to) || table.assignable(to, from)

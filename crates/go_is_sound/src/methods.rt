@@ -3,7 +3,7 @@
 //! Go, "Method sets", "Interface types", "Method declarations".
 
 use crate::facts::{Facts, same_signature};
-use crate::levels::under;
+use crate::levels::{points_to, under};
 use gj_base::NoMemory;
 use go_core::program::{Func, MethodRow};
 use go_type::types::{GoType, MethodSpec, Sig, TypeId};
@@ -28,13 +28,14 @@ fn have_rows(facts: &Facts, t: TypeId, specs: &[MethodSpec]) -> bool {
 
 /// Whether each method of a type's method set has its row. Of an interface type nothing is asked.
 pub fn set_has_rows(alloc: Global, facts: &Facts, t: TypeId) -> Result<bool, NoMemory> {
-    if !facts.has(t) {
+    let table = facts.table();
+    if t.0 >= table.len() {
         return Ok(false);
     }
-    if let Some(GoType::Interface(_)) = under(facts.table(), t) {
+    if let Some(GoType::Interface(_)) = under(table, t) {
         return Ok(true);
     }
-    let set = facts.table().method_set(alloc, t)?;
+    let set = table.method_set(alloc, t)?;
     Ok(have_rows(facts, t, set.as_slice()))
 }
 
@@ -78,8 +79,8 @@ fn set_has(specs: &[MethodSpec], row: &MethodRow, sig: &Sig) -> bool {
 // to it.
 fn receiver_fits(facts: &Facts, receiver: TypeId, row: TypeId) -> bool {
     receiver.0 == row.0
-        || crate::levels::points_to(facts.table(), row, receiver)
-        || crate::levels::points_to(facts.table(), receiver, row)
+        || points_to(facts.table(), row, receiver)
+        || points_to(facts.table(), receiver, row)
 }
 
 fn fits_func(alloc: Global, facts: &Facts, row: &MethodRow, func: &Func) -> Result<bool, NoMemory> {
@@ -89,15 +90,16 @@ fn fits_func(alloc: Global, facts: &Facts, row: &MethodRow, func: &Func) -> Resu
     if !func.captured.items.is_empty() || !receiver_fits(facts, receiver.ty, row.ty) {
         return Ok(false);
     }
-    let set = facts.table().method_set(alloc, row.ty)?;
+    let table = facts.table();
+    if row.ty.0 >= table.len() {
+        return Ok(false);
+    }
+    let set = table.method_set(alloc, row.ty)?;
     Ok(set_has(set.as_slice(), row, &func.sig))
 }
 
 /// Whether a row's function is a method of the row's type.
 pub fn row_is_sound(alloc: Global, facts: &Facts, row: &MethodRow) -> Result<bool, NoMemory> {
-    if !facts.has(row.ty) {
-        return Ok(false);
-    }
     match facts.func(row.func) {
         Some(func) => fits_func(alloc, facts, row, func),
         None => Ok(false),

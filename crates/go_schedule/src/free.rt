@@ -2,6 +2,10 @@
 //!
 //! Go, "Select statements", "Appending to and copying slices", "For statements with range clause".
 
+ghost use Rattle.std.specs.Prelude.{◌≡◌, IfOk, IfSome, false};
+ghost use Rattle.go_state.specs.Measure.{opens};
+ghost use Rattle.go_tasks.specs.Seen.{is_opened};
+
 use crate::partner::{Partner, partner_of, partner_of_offer};
 use gj_base::NoMemory;
 use go_composites::operator::Operator;
@@ -15,6 +19,7 @@ use go_selects::offers::offers_from;
 use go_state::frame::{Cursor, Todo};
 use go_state::next::next_todo;
 use go_state::state::{Move, Offer, State, Waiting};
+use go_tasks::task::Task;
 use go_values::memory::Memory;
 use go_values::scalar::Scalar;
 
@@ -68,7 +73,9 @@ fn talks(g: usize, way: usize, partner: Option<Partner>) -> Free {
 }
 
 // The next step of a goroutine that is able, which stays where it is.
-fn peek<'p, 'a>(state: &mut State<'p, 'a>, g: usize) -> Result<Option<Todo<'p, 'a>>, NoMemory> {
+fn peek<'p, 'a>(state: &mut State<'p, 'a>, g: usize) -> Result<Option<Todo<'p, 'a>>, NoMemory>
+    ensures closed { IfOk result (λ r. IfSome r (λ t. opens t ≡ false)) }
+{
     let Some(goroutine) = state.goroutines.as_mut_slice().get_mut(g) else {
         return Ok(None);
     };
@@ -209,7 +216,7 @@ fn at_select<'p, 'a>(
     }
 }
 
-// A step of the program's text.
+// A step by what it does.
 fn of_doing<'p, 'a>(
     c: &Context<'a>,
     state: &State<'p, 'a>,
@@ -245,6 +252,56 @@ fn of_doing<'p, 'a>(
     }
 }
 
+// A step of the program's text.
+fn of_text<'p, 'a>(
+    c: &Context<'a>,
+    state: &State<'p, 'a>,
+    g: usize,
+    task: Task<'p>,
+    choices: &[u64],
+    since: &[u64],
+) -> Result<Free, NoMemory>
+    requires { is_opened task ≡ false }
+{
+    match doing(task)? {
+        Some(does) => of_doing(c, state, g, does, choices, since),
+        None => Ok(local(g)),
+    }
+}
+
+// The next turn of a range.
+fn of_range(state: &State, g: usize, cursor: Cursor) -> Free {
+    let mut free = local(g);
+    match cursor {
+        Cursor::Entries {
+            map,
+            produced,
+            since: _,
+        } => {
+            free.free.birth = next_birth(&state.memory, map, produced);
+        }
+        _ => {}
+    }
+    free
+}
+
+fn of_todo<'p, 'a>(
+    c: &Context<'a>,
+    state: &State<'p, 'a>,
+    g: usize,
+    todo: Todo<'p, 'a>,
+    choices: &[u64],
+    since: &[u64],
+) -> Result<Free, NoMemory>
+    requires { opens todo ≡ false }
+{
+    match todo {
+        Todo::NextRange(_, cursor) => Ok(of_range(state, g, cursor)),
+        Todo::Text(task) => of_text(c, state, g, task, choices, since),
+        _ => Ok(local(g)),
+    }
+}
+
 // A goroutine that is able.
 fn able<'p, 'a>(
     c: &Context<'a>,
@@ -254,16 +311,8 @@ fn able<'p, 'a>(
     since: &[u64],
 ) -> Result<Free, NoMemory> {
     match peek(state, g)? {
-        Some(Todo::NextRange(_, Cursor::Entries { map, produced, .. })) => {
-            let mut free = local(g);
-            free.free.birth = next_birth(&state.memory, map, produced);
-            Ok(free)
-        }
-        Some(Todo::Text(task)) => match doing(task)? {
-            Some(does) => of_doing(c, state, g, does, choices, since),
-            None => Ok(local(g)),
-        },
-        _ => Ok(local(g)),
+        Some(todo) => of_todo(c, state, g, todo, choices, since),
+        None => Ok(local(g)),
     }
 }
 

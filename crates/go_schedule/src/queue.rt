@@ -39,7 +39,7 @@ impl Queue {
             if let Some(slot) = self.is_in.as_mut_slice().get_mut(g) {
                 *slot = false;
             }
-            self.head += 1;
+            self.head = self.head.saturating_add(1);
         }
         if self.head >= self.items.len() {
             self.items.clear();

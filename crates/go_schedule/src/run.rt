@@ -1,5 +1,7 @@
 //! A run from its beginning to its end.
 
+ghost use Rattle.std.specs.Prelude.{◌≡◌};
+
 use crate::free::{Sort, free_move};
 use crate::queue::Queue;
 use gj_base::NoMemory;
@@ -114,7 +116,9 @@ fn advance<'p, 'a>(
     queue: &mut Queue,
     state: &mut State<'p, 'a>,
     at: u64,
-) -> Result<bool, NoMemory> {
+) -> Result<bool, NoMemory>
+    requires { c.now.table.now ≡ p.now.types }
+{
     numbers.reach(state.taken)?;
     let choices = numbers.list.as_slice();
     let Some(g) = next_one(queue, state)? else {
@@ -148,7 +152,9 @@ pub fn run<'p, 'a>(
     order: &InitSteps,
     seed: u64,
     most: u64,
-) -> Result<Run<'p, 'a>, NoMemory> {
+) -> Result<Run<'p, 'a>, NoMemory>
+    requires { c.now.table.now ≡ p.now.types }
+{
     let mut state = start(c, p, order)?;
     let mut queue = Queue::new(c.alloc);
     let mut numbers = Numbers {
