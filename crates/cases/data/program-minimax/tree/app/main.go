@@ -127,7 +127,9 @@ func main() {
 	}
 	fmt.Println(t == b, b.turned() == b, t)
 	trap := board{cross, none, none, none, nought, none, none, none, cross}
-	fmt.Println(trap, s.best(trap, nought))
+	a := s.best(trap, nought)
+	fmt.Println(trap, a.score, a.move)
 	trap = trap.with(2, nought)
-	fmt.Println(trap, s.best(trap, cross))
+	a = s.best(trap, cross)
+	fmt.Println(trap, a.score, a.move)
 }
