@@ -21,7 +21,9 @@ use std::process::ExitCode;
 fn main(rt: HostRuntime) -> io::Result<ExitCode> {
     let alloc = rt.alloc();
     let mut cases = cases_here(&rt, alloc)?;
-    cases.as_mut_slice().sort_unstable_by(|a, b| a.name.cmp(&b.name));
+    cases
+        .as_mut_slice()
+        .sort_unstable_by(|a, b| a.name.cmp(&b.name));
     let mut differ = 0u32;
     for case in &cases {
         if let Some(line) = line_of(alloc, case)? {

@@ -5,6 +5,7 @@ use gj_base::{NoMemory, Text};
 use std::alloc::Global;
 
 const CASE: &[u8] = b"=== ";
+
 const FILE: &[u8] = b"--- ";
 
 /// Adds the cases of a text: `=== NAME` begins a case, `--- FILE` within it one of its files.

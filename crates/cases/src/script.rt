@@ -11,6 +11,7 @@ use js_tree::Script;
 use std::alloc::Global;
 
 const SEED: u64 = 1;
+
 const STEPS: u64 = 1000000000;
 
 /// More bytes than a script has.
@@ -47,7 +48,12 @@ pub fn built_runs(alloc: Global, case: &Case, words: &[Text], run: &Called) -> R
     let mut files = files_of(alloc, case, b"", 0)?;
     let called = call(alloc, case, build.as_slice(), &mut files)?;
     if called.status != 0 {
-        return same(alloc, b"stderr of build", run.err.bytes(), called.err.bytes());
+        return same(
+            alloc,
+            b"stderr of build",
+            run.err.bytes(),
+            called.err.bytes(),
+        );
     }
     match files.bytes("out.js") {
         Some(text) => {

@@ -7,6 +7,7 @@ use gj_base::{NoMemory, Text, TreeFiles};
 use std::alloc::Global;
 
 const TREE: &[u8] = b"tree/";
+
 const STARTS: &[u8] = b"starts/";
 
 /// The files of a case at the start. The file `cut`, if there is one, has its first `length` bytes only.
@@ -72,7 +73,10 @@ pub fn same_files(alloc: Global, case: &Case, files: &TreeFiles) -> Result<(), F
     for path in &lines_of(alloc, case.bytes_or_none(b"not-stored"))? {
         same_as_before(alloc, case, files, path.as_bytes())?;
     }
-    if !stored.as_slice().contains(&Text::from_slice(alloc, b"out.js")?) {
+    if !stored
+        .as_slice()
+        .contains(&Text::from_slice(alloc, b"out.js")?)
+    {
         same_as_before(alloc, case, files, b"out.js")?;
     }
     same_parts(alloc, case, files, stored.as_slice())

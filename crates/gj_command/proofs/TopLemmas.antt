@@ -27,7 +27,7 @@ use Rattle.gj_compile.specs.Answers.{HoldsProgram, AreUnbuilt, AreFaulty, IsTold
 use Rattle.gj_compile.specs.declared.refused.Refused.{Refused}
 use Rattle.gj_compile.specs.declared.refused.Refused.TheVariants as refused
 use Rattle.gj_command.specs.Settings.{Settings, build}
-use Rattle.gj_command.specs.Headline.{out_file, BuildAnswers, CountsStay, Headline, IsComplete, IsToldOf, Leaves, StoresScript, TreeStays}
+use Rattle.gj_command.specs.Headline.{out_file, BuildAnswers, CountsStay, Headline, IsComplete, IsToldBeyond, IsToldOf, Leaves, StoresScript, TreeStays}
 use Rattle.gj_command.specs.FaultText.{fault_text, fault_line, line_at}
 use Rattle.gj_command.specs.Stored.{StoresAs}
 use Rattle.gj_command.specs.Told.{Told}
@@ -141,9 +141,9 @@ completes one settings folder answer line old new named built = λ other named_t
 
     by : (a : Outcome) → BuildAnswers a line folder out_file false old new → Goal old.tree folder a
     by Done built = done old.tree
-    by (outcome.Fault fault) (found, entries, is, told, why) = elim why [
-      | inl finds ↦ never (outcome.Fault fault) (λ tree program there holds reads stores. not_faulty one tree folder program found entries holds (subst (λ (o : Option Tree). IsRead o folder entries) there finds.2) finds.3)
-      | inr other ↦ beyond (outcome.Fault fault) other.1
+    by (outcome.Fault fault) why = elim why [
+      | inl finds ↦ never (outcome.Fault fault) (λ tree program there holds reads stores. not_faulty one tree folder program finds.0 finds.1 holds (subst (λ (o : Option Tree). IsRead o folder finds.1) there finds.2.2.2.2) finds.2.2.2.3)
+      | inr other ↦ beyond (outcome.Fault fault) other.2.2
     ]
     by outcome.ReadFault (why, told) = elim why [
       | inl fails ↦ elim fails [
@@ -184,9 +184,9 @@ builds answer line s folder path small old mid new same right stored = by answer
 -- what a build leaves
 pub leaves : (answer : Outcome) (line folder path : List ℕ) (small : Bool) (old new : FilesState) → BuildAnswers answer line folder path small old new → Leaves answer old new
 leaves Done line folder path small old new (stores, none) = inr (path, stores.1, stores.2.2)
-leaves (outcome.Fault fault) line folder path small old new (found, entries, is, told, why) = elim why [
-  | inl finds ↦ finds.0
-  | inr other ↦ other.0
+leaves (outcome.Fault fault) line folder path small old new why = elim why [
+  | inl finds ↦ finds.2.2.2.0
+  | inr other ↦ other.2.1
 ]
 leaves outcome.ReadFault line folder path small old new (why, told) = elim why [
   | inl fails ↦ elim fails [
@@ -237,16 +237,29 @@ stays (outcome.BadScript place) old new same = ap (λ (s : FilesState). s.tree) 
 stays (outcome.Stuck place) old new same = ap (λ (s : FilesState). s.tree) same
 stays (outcome.Stopped steps) old new same = ap (λ (s : FilesState). s.tree) same
 
+beyond_of : (answer : Outcome) (line folder path : List ℕ) (small : Bool) (old new : FilesState) → IsToldBeyond answer line → new ≡ old → IsBeyond folder old → BuildAnswers answer line folder path small old new
+beyond_of (outcome.Fault fault) line folder path small old new told same is = inr (told.0, told.1, same, is)
+beyond_of outcome.NoMemory line folder path small old new told same is = (same, told)
+beyond_of outcome.Internal line folder path small old new told same is = (same, is, told)
+beyond_of Done line folder path small old new none same is = absurd none
+beyond_of outcome.ReadFault line folder path small old new none same is = absurd none
+beyond_of outcome.WriteFault line folder path small old new none same is = absurd none
+beyond_of (outcome.Ended code) line folder path small old new none same is = absurd none
+beyond_of outcome.Usage line folder path small old new none same is = absurd none
+beyond_of outcome.TooLong line folder path small old new none same is = absurd none
+beyond_of (outcome.BadScript place) line folder path small old new none same is = absurd none
+beyond_of (outcome.Stuck place) line folder path small old new none same is = absurd none
+beyond_of (outcome.Stopped steps) line folder path small old new none same is = absurd none
+
 -- what is told of a folder that has no script
 pub answers_of : (refused : Refused) (answer : Outcome) (line folder path : List ℕ) (small : Bool) (old new : FilesState) → IsToldOf refused answer line → IsRefused refused folder old new → BuildAnswers answer line folder path small old new
 answers_of refused.ReadFault answer line folder path small old new told why = subst (λ (a : Outcome). BuildAnswers a line folder path small old new) (sym told.0) (why, told.1)
 answers_of refused.NoMemory answer line folder path small old new told why = subst (λ (a : Outcome). BuildAnswers a line folder path small old new) (sym told.0) (why, told.1)
 answers_of refused.Internal answer line folder path small old new told why = subst (λ (a : Outcome). BuildAnswers a line folder path small old new) (sym told.0) (why.0, why.1, told.1)
-answers_of (refused.Fault fault entries) answer line folder path small old new (inl told) why = subst (λ (a : Outcome). BuildAnswers a line folder path small old new) (sym told.0) (fault, entries, refl, told.1, inl why)
+answers_of (refused.Fault fault entries) answer line folder path small old new (inl told) why = subst (λ (a : Outcome). BuildAnswers a line folder path small old new) (sym told.0) (inl (fault, entries, refl, told.1, why))
 answers_of (refused.Fault fault entries) answer line folder path small old new (inr told) why = subst (λ (a : Outcome). BuildAnswers a line folder path small old new) (sym told.0) (why.0, told.1)
-answers_of (refused.Beyond fault entries) answer line folder path small old new (inl told) why = subst (λ (a : Outcome). BuildAnswers a line folder path small old new) (sym told.0) (fault, entries, refl, told.1, inr why)
-answers_of (refused.Beyond fault entries) answer line folder path small old new (inr (inl told)) why = subst (λ (a : Outcome). BuildAnswers a line folder path small old new) (sym told.0) (why.0, told.1)
-answers_of (refused.Beyond fault entries) answer line folder path small old new (inr (inr told)) why = subst (λ (a : Outcome). BuildAnswers a line folder path small old new) (sym told.0) (why.0, why.1, told.1)
+answers_of (refused.Beyond fault entries) answer line folder path small old new told why = beyond_of answer line folder path small old new told why.0 why.1
+answers_of (refused.Unread fault entries) answer line folder path small old new told why = beyond_of answer line folder path small old new told why.0 why.1
 
 -- a fault in a file is told by its line
 pub told_at : (es : List FileEntry) (fault : Fault) (entry : FileEntry) (text : List ℕ) (old new : SinkState) → entry ≡ get_or es fault.place.file entry → fault.place.file < length es → text ≡ fault_text fault

@@ -1,5 +1,5 @@
 -- own: what is told of a fault.
-use Rattle.std.specs.Prelude.{◌++◌, ◌==◌, nat_lt, ℕ, false, List, [], ◌∷◌, codes, decimal, slice_index_or, if◌then◌else◌}
+use Rattle.std.specs.Prelude.{◌++◌, ◌==◌, nat_lt, ℕ, false, List, [], ◌∷◌, codes, decimal, length, slice_index_or, if◌then◌else◌}
 use Rattle.gj_base.specs.LineColumn.{line_and_column}
 use Rattle.gj_base.specs.declared.fault.Fault.{Fault}
 use Rattle.go_load.specs.declared.sources.FileEntry.{FileEntry}
@@ -147,3 +147,13 @@ abbrev pub fault_line : List FileEntry → Fault → List ℕ
 fault_line entries fault =
     let entry = entry_of entries fault in
     line_at entry.name (line_and_column entry.bytes fault.place.offset) (fault_text fault)
+
+-- the name of a file with the path of its package; the root has none
+abbrev pub whole_name : FileEntry → List ℕ
+whole_name entry = if nat_lt 0 (length entry.path) then entry.path ++ codes "/" ++ entry.name else entry.name
+
+-- the line that tells of a fault with its whole text
+abbrev pub whole_line : List FileEntry → Fault → List ℕ
+whole_line entries fault =
+    let entry = entry_of entries fault in
+    line_at (whole_name entry) (line_and_column entry.bytes fault.place.offset) fault.text

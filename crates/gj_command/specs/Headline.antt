@@ -15,7 +15,7 @@ use Rattle.go_load.specs.declared.sources.FileEntry.{FileEntry}
 use Rattle.gj_compile.specs.Answers.{HoldsProgram, FindsFault, IsBeyond, IsRefused, IsRight}
 use Rattle.gj_compile.specs.declared.refused.Refused.{Refused}
 use Rattle.gj_compile.specs.declared.refused.Refused.TheVariants as refused
-use Rattle.gj_command.specs.FaultText.{told_fault, fault_line}
+use Rattle.gj_command.specs.FaultText.{told_fault, fault_line, whole_line}
 use Rattle.gj_command.specs.declared.outcome.Outcome.{Outcome}
 use Rattle.gj_command.specs.declared.outcome.Outcome.TheVariants as outcome
 use Rattle.gj_command.specs.declared.outcome.Outcome.TheVariants.{Done, Ended, Usage, ReadFault, WriteFault, TooLong, BadScript, Stuck, Stopped, NoMemory, Internal}
@@ -54,10 +54,11 @@ StoresScript folder path is_small old new = (s : ScriptTree) × (text : List ℕ
 abbrev pub FailsToStore : List ℕ → List ℕ → Bool → FilesState → FilesState → Type 0
 FailsToStore folder path is_small old new = (s : ScriptTree) × (text : List ℕ) × IsTextOf is_small s text × IsRight s folder old × Stores (Err Failed) path text old new
 
--- this fault is told of the folder: the one that is defined, or of a folder beyond what is proved any one
+-- this fault is told of the folder: the one that is defined, or of a folder beyond what is proved any one, by its line at its file
 abbrev pub IsTold : Fault → List ℕ → List ℕ → FilesState → FilesState → Type 0
-IsTold fault line folder old new = (found : Fault) × (entries : List FileEntry) × (fault ≡ told_fault found) × (line ≡ fault_line entries found)
-    × (FindsFault found entries folder old new ⊎ ((new ≡ old) × IsBeyond folder old))
+IsTold fault line folder old new =
+    ((found : Fault) × (entries : List FileEntry) × (fault ≡ told_fault found) × (line ≡ fault_line entries found) × FindsFault found entries folder old new)
+    ⊎ ((entries : List FileEntry) × (line ≡ whole_line entries fault) × (new ≡ old) × IsBeyond folder old)
 
 -- what a build of this folder into this file comes to, and the line that tells of it
 abbrev pub BuildAnswers : Outcome → List ℕ → List ℕ → List ℕ → Bool → FilesState → FilesState → Type 0
@@ -112,6 +113,13 @@ abbrev pub IsComplete : Outcome → Option Settings → FilesState → FilesStat
 IsComplete answer settings old new = (folder : List ℕ) → settings ≡ Some (build folder) → IfSome old.tree (λ tree. (program : CoreProgram) → HoldsProgram tree folder program
     → (Rose old.reading_faults new.reading_faults → ⊥) → (Rose old.storing_faults new.storing_faults → ⊥) → (answer ≡ Done) ⊎ (answer ≡ NoMemory))
 
+-- what is told of a folder beyond what is proved
+abbrev pub IsToldBeyond : Outcome → List ℕ → Type 0
+IsToldBeyond (outcome.Fault fault) line = (entries : List FileEntry) × (line ≡ whole_line entries fault)
+IsToldBeyond NoMemory line = line ≡ out_of_memory_line
+IsToldBeyond Internal line = line ≡ internal_line
+IsToldBeyond _ line = ⊥
+
 -- what is told of a folder that has no script; want of memory may come instead
 abbrev pub IsToldOf : Refused → Outcome → List ℕ → Type 0
 IsToldOf refused.ReadFault answer line = (answer ≡ ReadFault) × (line ≡ read_failed_line)
@@ -119,5 +127,5 @@ IsToldOf refused.NoMemory answer line = (answer ≡ NoMemory) × (line ≡ out_o
 IsToldOf refused.Internal answer line = (answer ≡ Internal) × (line ≡ internal_line)
 IsToldOf (refused.Fault fault entries) answer line =
     ((answer ≡ outcome.Fault (told_fault fault)) × (line ≡ fault_line entries fault)) ⊎ ((answer ≡ NoMemory) × (line ≡ out_of_memory_line))
-IsToldOf (refused.Beyond fault entries) answer line =
-    ((answer ≡ outcome.Fault (told_fault fault)) × (line ≡ fault_line entries fault)) ⊎ (((answer ≡ NoMemory) × (line ≡ out_of_memory_line)) ⊎ ((answer ≡ Internal) × (line ≡ internal_line)))
+IsToldOf (refused.Beyond fault entries) answer line = IsToldBeyond answer line
+IsToldOf (refused.Unread fault entries) answer line = IsToldBeyond answer line

@@ -16,6 +16,7 @@ use itoa::Buffer;
 use std::alloc::Global;
 
 const SEED: u64 = 1;
+
 const STEPS: u64 = 1000000000;
 
 /// Compiles and runs the program with `size` goroutines, and tells how many functions it has, how many
@@ -45,7 +46,13 @@ pub fn generated<O: Sink, E: Sink>(alloc: Global, size: u32, out: &mut O, err: &
 }
 
 // The four lines of a run.
-fn told<O: Sink, E: Sink>(size: u32, printed: &[u8], status: u8, out: &mut O, err: &mut E) -> Outcome
+fn told<O: Sink, E: Sink>(
+    size: u32,
+    printed: &[u8],
+    status: u8,
+    out: &mut O,
+    err: &mut E,
+) -> Outcome
     requires { size ≤ most_size }
     ensures { (line : List ℕ) × IsWritten result × Told line (E.state err.old) (E.state err.new) }
 {
@@ -102,7 +109,9 @@ fn program_of(alloc: Global, size: u32) -> Result<Text, NoMemory> {
     for number in 0..size {
         text.push_bytes(b"\nfunc w")?;
         push_number(&mut text, number)?;
-        text.push_bytes(b"(in chan int, out chan int) {\n\ts := 0\n\tfor v := range in {\n\t\ts += v * ")?;
+        text.push_bytes(
+            b"(in chan int, out chan int) {\n\ts := 0\n\tfor v := range in {\n\t\ts += v * ",
+        )?;
         push_number(&mut text, number)?;
         text.push_bytes(b"\n\t}\n\tout <- s\n}\n")?;
     }
@@ -121,8 +130,12 @@ fn push_main(text: &mut Text, size: u32) -> Result<(), NoMemory> {
         push_number(text, number)?;
         text.push_bytes(b"], out)\n")?;
     }
-    text.push_bytes(b"\tfor j := 0; j < 3; j++ {\n\t\tfor i := range ins {\n\t\t\tins[i] <- j\n\t\t}\n\t}\n")?;
-    text.push_bytes(b"\tfor i := range ins {\n\t\tclose(ins[i])\n\t}\n\tt := 0\n\tfor i := 0; i < ")?;
+    text.push_bytes(
+        b"\tfor j := 0; j < 3; j++ {\n\t\tfor i := range ins {\n\t\t\tins[i] <- j\n\t\t}\n\t}\n",
+    )?;
+    text.push_bytes(
+        b"\tfor i := range ins {\n\t\tclose(ins[i])\n\t}\n\tt := 0\n\tfor i := 0; i < ",
+    )?;
     push_number(text, size)?;
     text.push_bytes(b"; i++ {\n\t\tt += <-out\n\t}\n\tprintln(t)\n}\n")
 }

@@ -1,8 +1,8 @@
 //! What a user is told where a command did not do its work.
 
-ghost use Rattle.std.specs.Prelude.{◌≡◌, ◌≤◌, All, List, ℕ, length, true};
+ghost use Rattle.std.specs.Prelude.{◌≡◌, ◌≤◌, All, List, ℕ, length};
 ghost use Rattle.go_load.specs.Root.{file_limit};
-ghost use Rattle.gj_command.specs.Headline.{IsToldOf, out_of_memory_line, write_failed_line, read_failed_line, internal_line};
+ghost use Rattle.gj_command.specs.Headline.{IsToldBeyond, IsToldOf, out_of_memory_line, write_failed_line, read_failed_line, internal_line};
 ghost use Rattle.gj_command.specs.Refusals.{CanBeTold};
 ghost use Rattle.gj_command.specs.Told.{Told};
 ghost use Rattle.gj_command.specs.declared.outcome.Outcome.TheVariants as outcome;
@@ -10,7 +10,7 @@ ghost use Rattle.gj_compile.specs.declared.refused.Refused.TheVariants as refuse
 
 use crate::outcome::Outcome;
 use crate::report;
-use crate::report::{fault_text, tell, tell_at};
+use crate::report::{fault_text, tell, tell_at, tell_whole};
 use gj_base::{Fault, Sink};
 use gj_compile::Refused;
 use go_load::Sources;
@@ -65,7 +65,8 @@ pub fn refuse<E: Sink>(alloc: Global, refused: Refused, err: &mut E) -> Outcome
         Refused::NoMemory => out_of_memory(err),
         Refused::Internal => internal(err),
         Refused::Fault(fault, sources) => refuse_fault(alloc, fault, &sources, err),
-        Refused::Beyond(fault, sources) => refuse_beyond(alloc, fault, &sources, err),
+        Refused::Beyond(fault, sources) => refuse_beyond(fault, &sources, err),
+        Refused::Unread(fault, sources) => refuse_unread(alloc, fault, &sources, err),
     }
 }
 
@@ -91,24 +92,35 @@ fn refuse_fault<E: Sink>(alloc: Global, fault: Fault, sources: &Sources, err: &m
     })
 }
 
-/// Tells of a fault in these files, of which nothing is proved.
-fn refuse_beyond<E: Sink>(alloc: Global, fault: Fault, sources: &Sources, err: &mut E) -> Outcome
-    ensures { (line : List ℕ) × IsToldOf (refused.Beyond fault sources.now) result line × Told line (E.state err.old) (E.state err.new) }
+/// Tells of a fault with its whole text.
+fn refuse_beyond<E: Sink>(fault: Fault, sources: &Sources, err: &mut E) -> Outcome
+    ensures { (line : List ℕ) × IsToldBeyond result line × Told line (E.state err.old) (E.state err.new) }
 {
-    if !are_short(sources) || fault.place.file as usize >= sources.as_slice().len() {
+    let place = fault.place;
+    if place.file as usize >= sources.as_slice().len() {
         return internal(err);
     }
-    refuse_fault(alloc, fault, sources, err)
+    let entry = &sources.as_slice()[place.file as usize];
+    if entry.bytes.as_bytes().len() > FILE_LIMIT {
+        return internal(err);
+    }
+    tell_whole(entry, place.offset, fault.text.as_bytes(), err);
+    Outcome::Fault(fault)
 }
 
-/// Whether each file keeps the limit of files.
-fn are_short(sources: &Sources) -> bool
-    ensures { result ≡ true → All (λ e. length e.bytes ≤ file_limit) sources.now }
+/// Tells of a fault with the name that is told of it.
+fn refuse_unread<E: Sink>(alloc: Global, fault: Fault, sources: &Sources, err: &mut E) -> Outcome
+    ensures { (line : List ℕ) × IsToldBeyond result line × Told line (E.state err.old) (E.state err.new) }
 {
-    for entry in sources.as_slice() {
-        if entry.bytes.as_bytes().len() > FILE_LIMIT {
-            return false;
+    match fault_text(alloc, &fault) {
+        Ok(text) => {
+            let whole = Fault {
+                place: fault.place,
+                code: fault.code,
+                text,
+            };
+            refuse_beyond(whole, sources, err)
         }
+        Err(_) => out_of_memory(err),
     }
-    true
 }

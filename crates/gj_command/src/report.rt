@@ -3,7 +3,7 @@
 ghost use Rattle.std.specs.Prelude.{◌≡◌, ◌≤◌, IfOk, flat_map, length};
 ghost use Rattle.gj_base.specs.LineColumn.{line_and_column};
 ghost use Rattle.go_load.specs.Root.{file_limit};
-ghost use Rattle.gj_command.specs.FaultText.{of_text, of_constants, of_expressions, of_types, of_statements, sentence, ending, fault_text, line_of, line_at};
+ghost use Rattle.gj_command.specs.FaultText.{of_text, of_constants, of_expressions, of_types, of_statements, sentence, ending, fault_text, line_of, line_at, whole_name};
 ghost use Rattle.gj_command.specs.Told.{Told};
 
 use gj_base::{Fault, NoMemory, Sink, Text, line_col};
@@ -245,6 +245,27 @@ fn place_in(bytes: &[u8], offset: u32) -> (u32, u32)
         return line_col(bytes, offset);
     }
     line_col(bytes, size)
+}
+
+/// Tells this whole text of a place in a file, which is named with the path of its package.
+pub fn tell_whole<E: Sink>(entry: &FileEntry, offset: u32, text: &[u8], err: &mut E)
+    requires { length entry.now.bytes ≤ file_limit }
+    ensures { Told (line_at (whole_name entry.now) (line_and_column entry.now.bytes offset) text.now) (E.state err.old) (E.state err.new) }
+{
+    let (line, column) = place_in(entry.bytes.as_bytes(), offset);
+    let mut line_digits = Buffer::new();
+    let mut column_digits = Buffer::new();
+    let line = line_digits.format(line).as_bytes();
+    let column = column_digits.format(column).as_bytes();
+    let path = entry.path.as_bytes();
+    let slash: &[u8] = if path.is_empty() { b"" } else { b"/" };
+    let name = entry.name.as_bytes();
+    tell(
+        err,
+        &[
+            path, slash, name, b":", line, b":", column, b": ", text, b"\n",
+        ],
+    );
 }
 
 /// Writes a line in pieces; after a failed write nothing more is written.

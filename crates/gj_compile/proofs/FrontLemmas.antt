@@ -99,6 +99,7 @@ goes_on r packages fault least unbuilt goes = by r goes
     by (Ok c) goes = inr (goes, beyond)
     by (Err (refused.Fault f entries)) goes = absurd goes
     by (Err (refused.Beyond f entries)) goes = beyond
+    by (Err (refused.Unread f entries)) goes = beyond
     by (Err refused.ReadFault) goes = absurd goes
     by (Err refused.NoMemory) goes = tt
     by (Err refused.Internal) goes = absurd goes
@@ -135,7 +136,7 @@ fronts r folder packages old new same some read are fronts = by r fronts
     have = have_trees packages some are
 
     beyond : AreBeyond packages → IsBeyond folder old
-    beyond b = record { entries = packages.files; some = some; read = read; fault = b.fault; told = told_of packages packages.files b.fault have b.why; unbuilt = b.unbuilt }
+    beyond b = record { entries = packages.files; some = some; read = read; fault = b.fault; told = told_of packages packages.files b.fault have b.why; why = inl b.unbuilt }
 
     by : (r : Result Checked Refused) → FrontsPackages r packages → Fronts r folder old new
     by (Ok c) (inl plain) = (same, inl (plain.0, plain.1, holds old.tree folder packages (program_view c.program) some read are plain.2))
@@ -148,6 +149,7 @@ fronts r folder packages old new same some read are fronts = by r fronts
       code,
     )
     by (Err (refused.Beyond fault entries)) b = (same, beyond b)
+    by (Err (refused.Unread fault entries)) b = (same, beyond b)
     by (Err refused.ReadFault) none = absurd none
     by (Err refused.NoMemory) u = same
     by (Err refused.Internal) none = absurd none
@@ -156,13 +158,14 @@ fronts r folder packages old new same some read are fronts = by r fronts
 pub unloaded : (refusal : LoadRefusal) (r : Result Checked Refused) (folder : List ℕ) (old mid new : FilesState) → Loads (Err refusal) folder old mid → FrontsUnloaded r refusal mid new → Fronts r folder old new
 unloaded (load.Fault fault entries) r folder old mid new loads comes = elim comes [
   | inl told ↦ subst (λ (x : Result Checked Refused). Fronts x folder old new) (sym told.1) (told.2 ∙ loads.0, loads.1, loads.2, inl loads.3, told.0)
-  | inr more ↦ later r (record { entries = entries; some = loads.1; read = loads.2; fault = fault; told = inl loads.3; unbuilt = more.0 }) (subst (λ (s : FilesState). Imports r s new) loads.0 more.1)
+  | inr more ↦ later r (record { entries = entries; some = loads.1; read = loads.2; fault = fault; told = inl loads.3; why = more.0 }) (subst (λ (s : FilesState). Imports r s new) loads.0 more.1)
 ]
   where
     later : (r : Result Checked Refused) → IsBeyond folder old → Imports r old new → Fronts r folder old new
     later (Ok c) beyond comes = (comes.1, inr (comes.0, beyond))
     later (Err (refused.Fault f es)) beyond none = absurd none
     later (Err (refused.Beyond f es)) beyond same = (same, beyond)
+    later (Err (refused.Unread f es)) beyond same = (same, beyond)
     later (Err refused.ReadFault) beyond fails = inr (fails, beyond)
     later (Err refused.NoMemory) beyond same = same
     later (Err refused.Internal) beyond none = absurd none
@@ -188,6 +191,7 @@ compiles r c folder old new same checked scripts = by r scripts checked
     by (Ok script) scripts (inr other) = (same, scripts.0, inr other.1)
     by (Err (refused.Fault f es)) none checked = absurd none
     by (Err (refused.Beyond f es)) unlike checked = (same, beyond checked unlike)
+    by (Err (refused.Unread f es)) unlike checked = (same, beyond checked unlike)
     by (Err refused.ReadFault) none checked = absurd none
     by (Err refused.NoMemory) u checked = same
     by (Err refused.Internal) unlike checked = (same, beyond checked unlike)

@@ -1,5 +1,5 @@
 -- own: what a compile of a folder comes to, answer by answer, over the files as they were.
-use Rattle.std.specs.Prelude.{◌≡◌, ◌≢◌, ◌⊎◌, ◌<◌, List, [], ℕ, true, false, length, Some, None, IfSome, Result, Ok, Err}
+use Rattle.std.specs.Prelude.{◌≡◌, ◌≢◌, ◌⊎◌, ◌<◌, List, [], ℕ, true, false, length, take, drop, codes, Contains, Some, None, IfSome, Result, Ok, Err}
 use Rattle.gj_base.specs.Tree.{Tree}
 use Rattle.gj_base.specs.Files.{FilesState, ReadFailed}
 use Rattle.gj_base.specs.declared.fault.Fault.{Fault}
@@ -77,14 +77,21 @@ IsToldFault entries fault = IsFaultOf entries fault ⊎ (AreFaulty entries fault
 abbrev pub FindsFault : Fault → List FileEntry → List ℕ → FilesState → FilesState → Type 0
 FindsFault fault entries folder old new = (new ≡ old) × (0 < length entries) × IsRead old.tree folder entries × IsToldFault entries fault × (fault.code ≢ 0)
 
--- F0 is told of the folder: an import, a form that the scalar checker doesn't have, or a package that is not plain. What comes of such a folder is defined nowhere yet
+-- the letters `import` stand somewhere in a file
+abbrev pub NamesImport : FileEntry → Type 0
+NamesImport entry = (k : ℕ) × (take 6 (drop k entry.bytes) ≡ codes "import")
+
+abbrev pub NameImport : List FileEntry → Type 0
+NameImport entries = (entry : FileEntry) × Contains entries entry × NamesImport entry
+
+-- F0 is told of the folder: an import, a form that the scalar checker doesn't have, or a package that is not plain; or another fault where a file may import a package with a fault that comes first. What comes of such a folder is defined nowhere yet
 pub record IsBeyond (folder : List ℕ) (old : FilesState) : Type 0 where
   pub entries : List FileEntry
   pub some : 0 < length entries
   pub read : IsRead old.tree folder entries
   pub fault : Fault
   pub told : IsToldFault entries fault
-  pub unbuilt : fault.code ≡ 0
+  pub why : (fault.code ≡ 0) ⊎ NameImport entries
 
 -- a read failed after the proved stages, or a folder was gone then
 abbrev pub FailsLater : FilesState → FilesState → Type 0
@@ -94,6 +101,7 @@ FailsLater old new = ReadFailed old new ⊎ (new ≡ old)
 abbrev pub IsRefused : Refused → List ℕ → FilesState → FilesState → Type 0
 IsRefused (refused.Fault fault entries) folder old new = FindsFault fault entries folder old new
 IsRefused (refused.Beyond fault entries) folder old new = (new ≡ old) × IsBeyond folder old
+IsRefused (refused.Unread fault entries) folder old new = (new ≡ old) × IsBeyond folder old
 IsRefused refused.ReadFault folder old new = FailsToRead folder old new ⊎ (FailsLater old new × IsBeyond folder old)
 IsRefused refused.NoMemory folder old new = new ≡ old
 IsRefused refused.Internal folder old new = (new ≡ old) × IsBeyond folder old

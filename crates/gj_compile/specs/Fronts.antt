@@ -25,7 +25,7 @@ use Rattle.js_prints.specs.Faithful.{Faithful}
 use Rattle.js_prints.specs.Prints.{only_prints}
 use Rattle.gj_plain.specs.Plain as p
 use Rattle.gj_plain.specs.Plain.{plain_main}
-use Rattle.gj_compile.specs.Answers.{unbuilt_fault, FailsLater}
+use Rattle.gj_compile.specs.Answers.{unbuilt_fault, FailsLater, NameImport}
 use Rattle.gj_compile.specs.declared.front.Checked.{Checked}
 use Rattle.gj_compile.specs.declared.refused.Refused.{Refused}
 use Rattle.gj_compile.specs.declared.refused.Refused.TheVariants as refused
@@ -66,6 +66,7 @@ FrontsPackages (Ok c) packages =
     ((c.is_plain ≡ true) × (only_prints (program_view c.program) ≡ true) × IsHeld packages (program_view c.program)) ⊎ ((c.is_plain ≡ false) × AreBeyond packages)
 FrontsPackages (Err (refused.Fault fault entries)) packages = (entries ≡ packages.files) × IsLeastOf (decls_in packages) fault × (fault.code ≢ 0)
 FrontsPackages (Err (refused.Beyond fault entries)) packages = AreBeyond packages
+FrontsPackages (Err (refused.Unread fault entries)) packages = AreBeyond packages
 FrontsPackages (Err refused.ReadFault) packages = ⊥
 FrontsPackages (Err refused.NoMemory) packages = Unit {0}
 FrontsPackages (Err refused.Internal) packages = ⊥
@@ -75,6 +76,7 @@ abbrev pub GoesOn : Result Checked Refused → Type 0
 GoesOn (Ok c) = c.is_plain ≡ false
 GoesOn (Err (refused.Fault fault entries)) = ⊥
 GoesOn (Err (refused.Beyond fault entries)) = Unit {0}
+GoesOn (Err (refused.Unread fault entries)) = Unit {0}
 GoesOn (Err refused.ReadFault) = ⊥
 GoesOn (Err refused.NoMemory) = Unit {0}
 GoesOn (Err refused.Internal) = ⊥
@@ -84,6 +86,7 @@ abbrev pub Imports : Result Checked Refused → FilesState → FilesState → Ty
 Imports (Ok c) old new = (c.is_plain ≡ false) × (new ≡ old)
 Imports (Err (refused.Fault fault entries)) old new = ⊥
 Imports (Err (refused.Beyond fault entries)) old new = new ≡ old
+Imports (Err (refused.Unread fault entries)) old new = new ≡ old
 Imports (Err refused.ReadFault) old new = FailsLater old new
 Imports (Err refused.NoMemory) old new = new ≡ old
 Imports (Err refused.Internal) old new = ⊥
@@ -91,7 +94,7 @@ Imports (Err refused.Internal) old new = ⊥
 -- what comes of a folder that the proved loader refuses
 abbrev pub FrontsUnloaded : Result Checked Refused → LoadRefusal → FilesState → FilesState → Type 0
 FrontsUnloaded r (load.Fault fault entries) old new =
-    ((fault.code ≢ 0) × (r ≡ Err (refused.Fault fault entries)) × (new ≡ old)) ⊎ ((fault.code ≡ 0) × Imports r old new)
+    ((fault.code ≢ 0) × (r ≡ Err (refused.Fault fault entries)) × (new ≡ old)) ⊎ (((fault.code ≡ 0) ⊎ NameImport entries) × Imports r old new)
 FrontsUnloaded r load.ReadFault old new = (r ≡ Err refused.ReadFault) × (new ≡ old)
 FrontsUnloaded r load.NoMemory old new = (r ≡ Err refused.NoMemory) × (new ≡ old)
 
@@ -100,6 +103,7 @@ abbrev pub Scripts : Result Script Refused → Checked → Type 0
 Scripts (Ok script) c = IsPrintable (script_view script) × (c.is_plain ≡ true → Faithful (script_view script) (program_view c.program) [])
 Scripts (Err (refused.Fault fault entries)) c = ⊥
 Scripts (Err (refused.Beyond fault entries)) c = c.is_plain ≡ false
+Scripts (Err (refused.Unread fault entries)) c = c.is_plain ≡ false
 Scripts (Err refused.ReadFault) c = ⊥
 Scripts (Err refused.NoMemory) c = Unit {0}
 Scripts (Err refused.Internal) c = c.is_plain ≡ false
@@ -109,6 +113,7 @@ abbrev pub ScriptsPlain : Result Script Refused → Program → Type 0
 ScriptsPlain (Ok script) program = IsPrintable (script_view script) × Faithful (script_view script) (program_view program) []
 ScriptsPlain (Err (refused.Fault fault entries)) program = ⊥
 ScriptsPlain (Err (refused.Beyond fault entries)) program = ⊥
+ScriptsPlain (Err (refused.Unread fault entries)) program = ⊥
 ScriptsPlain (Err refused.ReadFault) program = ⊥
 ScriptsPlain (Err refused.NoMemory) program = Unit {0}
 ScriptsPlain (Err refused.Internal) program = ⊥
@@ -117,6 +122,7 @@ abbrev pub ScriptsAny : Result Script Refused → Type 0
 ScriptsAny (Ok script) = IsPrintable (script_view script)
 ScriptsAny (Err (refused.Fault fault entries)) = ⊥
 ScriptsAny (Err (refused.Beyond fault entries)) = Unit {0}
+ScriptsAny (Err (refused.Unread fault entries)) = Unit {0}
 ScriptsAny (Err refused.ReadFault) = ⊥
 ScriptsAny (Err refused.NoMemory) = Unit {0}
 ScriptsAny (Err refused.Internal) = Unit {0}

@@ -14,8 +14,7 @@ pub fn blocking_names<F: Files>(
     root: &str,
     src: &str,
     files: &mut F,
-) -> Result<Vec<Text>, Refused>
-{
+) -> Result<Vec<Text>, Refused> {
     match check_folder(alloc, root, src, files) {
         Ok(checked) => {
             let names = marked_names(alloc, &checked.program);

@@ -4,10 +4,10 @@
 //! Only where they tell that a form isn't built yet the loader of imports and the checker of the whole
 //! profile go on.
 
-ghost use Rattle.std.specs.Prelude.{◌≡◌, [], Err, IfOk, is_some};
+ghost use Rattle.std.specs.Prelude.{◌≡◌, [], ℕ, Err, IfOk, codes, drop, is_some, take, true};
 ghost use Rattle.go_packages.specs.Checked.{told};
 ghost use Rattle.go_stmt.specs.Checks.{Checks, IsProgramOf};
-ghost use Rattle.gj_compile.specs.Answers.{Fronts};
+ghost use Rattle.gj_compile.specs.Answers.{Fronts, NameImport};
 ghost use Rattle.gj_compile.specs.Fronts.{decls_in, main_of, FrontsPackages, FrontsUnloaded};
 
 use crate::refused::Refused;
@@ -59,7 +59,7 @@ fn check_unloaded<F: Files>(
 {
     match refusal {
         LoadRefusal::Fault(fault, sources) => {
-            if fault.code == UNBUILT {
+            if fault.code == UNBUILT || name_import(&sources) {
                 return check_imports(alloc, root, src, files);
             }
             Err(Refused::Fault(fault, sources))
@@ -67,6 +67,30 @@ fn check_unloaded<F: Files>(
         LoadRefusal::ReadFault => Err(Refused::ReadFault),
         LoadRefusal::NoMemory => Err(Refused::NoMemory),
     }
+}
+
+/// Whether a file may import a package: a fault of that package may come before those of the root.
+fn name_import(sources: &Sources) -> bool
+    ensures { result ≡ true → NameImport sources.now }
+{
+    for entry in sources.as_slice() {
+        if names_import(entry.bytes.as_bytes()) {
+            return true;
+        }
+    }
+    false
+}
+
+/// Whether the letters `import` stand somewhere in a text.
+fn names_import(bytes: &[u8]) -> bool
+    ensures { result ≡ true → (k : ℕ) × (take 6 (drop k bytes.now) ≡ codes "import") }
+{
+    for place in 0..bytes.len() {
+        if bytes[place..].starts_with(b"import") {
+            return true;
+        }
+    }
+    false
 }
 
 /// Checks a root without imports.

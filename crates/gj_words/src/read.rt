@@ -9,10 +9,15 @@ use clap::{Arg, ArgAction, ArgMatches, Command};
 use std::alloc::{AllocError, Global};
 
 const OUT_FILE: &str = "out.js";
+
 const SOURCE_FOLDER: &str = "src";
+
 const SEED: u64 = 1;
+
 const STEPS: u64 = 1000000000;
+
 const MOST_STEPS: u64 = 1000000000000;
+
 const MOST_SIZE: u32 = 1000;
 
 /// What the words after the program's name ask for.

@@ -23,11 +23,19 @@ pub enum Settings<'a> {
         budget: Budget,
     },
     /// Run the script in `file`.
-    Exec { file: &'a str, budget: Budget },
+    Exec {
+        file: &'a str,
+        budget: Budget,
+    },
     /// Print the functions that may wait.
-    Blocking { folder: &'a str, src: &'a str },
+    Blocking {
+        folder: &'a str,
+        src: &'a str,
+    },
     /// Compile and run a program with so many goroutines.
-    Gen { size: u32 },
+    Gen {
+        size: u32,
+    },
     /// Print the version.
     Version,
 }
