@@ -1,5 +1,5 @@
 -- own: what is told of a fault.
-use Rattle.std.specs.Prelude.{◌++◌, ◌==◌, nat_lt, ℕ, false, List, [], ◌∷◌, codes, decimal, length, slice_index_or, if◌then◌else◌}
+use Rattle.std.specs.Prelude.{◌++◌, ◌==◌, nat_lt, ℕ, false, List, [], ◌∷◌, codes, decimal, slice_index_or, if◌then◌else◌}
 use Rattle.gj_base.specs.LineColumn.{line_and_column}
 use Rattle.gj_base.specs.declared.fault.Fault.{Fault}
 use Rattle.go_load.specs.declared.sources.FileEntry.{FileEntry}
@@ -148,9 +148,14 @@ fault_line entries fault =
     let entry = entry_of entries fault in
     line_at entry.name (line_and_column entry.bytes fault.place.offset) (fault_text fault)
 
+-- what stands between the path of a package and the name of a file
+abbrev pub slash_after : List ℕ → List ℕ
+slash_after [] = []
+slash_after (b ∷ bs) = codes "/"
+
 -- the name of a file with the path of its package; the root has none
 abbrev pub whole_name : FileEntry → List ℕ
-whole_name entry = if nat_lt 0 (length entry.path) then entry.path ++ codes "/" ++ entry.name else entry.name
+whole_name entry = entry.path ++ slash_after entry.path ++ entry.name
 
 -- the line that tells of a fault with its whole text
 abbrev pub whole_line : List FileEntry → Fault → List ℕ

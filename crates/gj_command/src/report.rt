@@ -3,7 +3,7 @@
 ghost use Rattle.std.specs.Prelude.{◌≡◌, ◌≤◌, IfOk, flat_map, length};
 ghost use Rattle.gj_base.specs.LineColumn.{line_and_column};
 ghost use Rattle.go_load.specs.Root.{file_limit};
-ghost use Rattle.gj_command.specs.FaultText.{of_text, of_constants, of_expressions, of_types, of_statements, sentence, ending, fault_text, line_of, line_at, whole_name};
+ghost use Rattle.gj_command.specs.FaultText.{of_text, of_constants, of_expressions, of_types, of_statements, sentence, ending, fault_text, line_of, line_at, slash_after, whole_name};
 ghost use Rattle.gj_command.specs.Told.{Told};
 
 use gj_base::{Fault, NoMemory, Sink, Text, line_col};
@@ -258,7 +258,7 @@ pub fn tell_whole<E: Sink>(entry: &FileEntry, offset: u32, text: &[u8], err: &mu
     let line = line_digits.format(line).as_bytes();
     let column = column_digits.format(column).as_bytes();
     let path = entry.path.as_bytes();
-    let slash: &[u8] = if path.is_empty() { b"" } else { b"/" };
+    let slash = slash_after(path);
     let name = entry.name.as_bytes();
     tell(
         err,
@@ -266,6 +266,16 @@ pub fn tell_whole<E: Sink>(entry: &FileEntry, offset: u32, text: &[u8], err: &mu
             path, slash, name, b":", line, b":", column, b": ", text, b"\n",
         ],
     );
+}
+
+/// What stands between the path of a package and the name of a file.
+fn slash_after(path: &[u8]) -> &'static [u8]
+    ensures { result.now ≡ slash_after path.now }
+{
+    match path {
+        [] => b"",
+        _ => b"/",
+    }
 }
 
 /// Writes a line in pieces; after a failed write nothing more is written.
