@@ -266,7 +266,8 @@ impl<'p> Body<'p> {
 
     /// One more value, in its temporary.
     pub fn push(&mut self, e: ExprId) {
-        let x = self.temp(self.stack.len());
+        let place = self.stack.len();
+        let x = self.temp(place);
         self.pool.assign(x, e);
         let e = self.pool.named(x);
         self.put(Operand {

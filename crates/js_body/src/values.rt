@@ -28,7 +28,8 @@ impl<'p> Body<'p> {
     // `$copy(target,0,source,0,n,d)`
     fn copy_call(&mut self, target: ExprId, source: ExprId, t: TypeId) -> ExprId {
         let none = self.pool.num(0);
-        let n = self.pool.num(parts(self.table(), t) as u64);
+        let n = parts(self.table(), t);
+        let n = self.pool.num(n as u64);
         let d = self.description(t);
         let items = [target, none, source, none, n, d];
         self.pool.call_of(Name::Word(b"$copy"), &items)

@@ -96,8 +96,8 @@ impl<'p> Body<'p> {
         self.pool.give(e);
         let body = self.pool.close(mark);
         let params = self.pool.params(&[]);
-        self.pool
-            .function(Name::Numbered(b"$z", self.type_number(t)), params, body);
+        let x = Name::Numbered(b"$z", self.type_number(t));
+        self.pool.function(x, params, body);
     }
 
     fn zero_fields(&mut self, t: TypeId) -> ExprId {
@@ -175,8 +175,8 @@ impl<'p> Body<'p> {
         }
         let items = self.pool.close_list(mark);
         let e = self.pool.array(items);
-        self.pool
-            .global(Name::Numbered(b"$d", self.type_number(t)), e);
+        let x = Name::Numbered(b"$d", self.type_number(t));
+        self.pool.global(x, e);
     }
 
     // The description of a field.

@@ -13,7 +13,10 @@ pub fn constant(b: &mut Body<'_>, t: TypeId, value: &Constant) {
     match value {
         Constant::Bool(x) => b.push_truth(*x),
         Constant::Text(s) => text(b, s),
-        Constant::Int(n) => number(b, b.int_kind(t), *n),
+        Constant::Int(n) => {
+            let kind = b.int_kind(t);
+            number(b, kind, *n);
+        }
     }
 }
 

@@ -122,6 +122,7 @@ pub fn expr<'p>(b: &mut Body<'p>, e: &'p CoreExpr) {
         }
         CoreForm::ByteAt { text, index } => {
             expr(b, text);
+            b.settle();
             expr(b, index);
             let kind = index_kind(b, index);
             byte_at(b, kind);
@@ -135,6 +136,7 @@ pub fn expr<'p>(b: &mut Body<'p>, e: &'p CoreExpr) {
             ..
         } => {
             expr(b, operand);
+            b.settle();
             match low {
                 Some(low) => {
                     expr(b, low);

@@ -27,7 +27,8 @@ pub fn make_map(b: &mut Body<'_>) {
 
 /// Sets an entry of a map of a type.
 pub fn set_entry(b: &mut Body<'_>, t: TypeId, m: ExprId, key: ExprId, value: ExprId) {
-    let d = b.description(key_type(b.table(), t));
+    let of_key = key_type(b.table(), t);
+    let d = b.description(of_key);
     let call = b.pool.call4(b"$mset", m, key, value, d);
     b.pool.perform(call);
 }
@@ -57,7 +58,8 @@ pub fn map_get(b: &mut Body<'_>, t: TypeId, with_ok: bool) {
     let key = b.pop();
     let m = b.pop();
     let at = b.depth();
-    let d = b.description(key_type(b.table(), t));
+    let of_key = key_type(b.table(), t);
+    let d = b.description(of_key);
     let found = b.pool.call3(b"$mget", m.e, key.e, d);
     b.push(found);
     let entry = b.last();
@@ -79,7 +81,8 @@ pub fn map_get(b: &mut Body<'_>, t: TypeId, with_ok: bool) {
 pub fn map_delete(b: &mut Body<'_>, t: TypeId) {
     let key = b.pop();
     let m = b.pop();
-    let d = b.description(key_type(b.table(), t));
+    let of_key = key_type(b.table(), t);
+    let d = b.description(of_key);
     let call = b.pool.call3(b"$mdel", m.e, key.e, d);
     b.pool.perform(call);
 }
