@@ -140,12 +140,12 @@ c_is_next = record {
 
 b_is_next : IsNext by_need [] (2 ∷ []) 1 var_b
 b_is_next = record {
-  is_ready = record { is_variable = is_b; not_set = not_set; rests_on_set = λ m y v h. subst (Contains (2 ∷ [])) (of_b m h) (here 2 []) };
+  is_ready = record { is_variable = is_b; not_set = not_set; rests_on_set = λ m y v h. subst (Contains {X = ℕ} (2 ∷ [])) (of_b m h) (here 2 []) };
   earliest = earliest;
 }
   where
-    not_set : Contains (2 ∷ []) 1 → ⊥
-    not_set h = of_each (λ k. k ≡ 1 → ⊥) (2 ∷ []) ((λ e. cc), tt) 1 h refl
+    not_set : Contains {X = ℕ} (2 ∷ []) 1 → ⊥
+    not_set h = of_each {X = ℕ} (λ k. k ≡ 1 → ⊥) (2 ∷ []) ((λ e. cc), tt) 1 h refl
 
     earliest : (m : ℕ) (y : PackageVar) → IsReady by_need [] (2 ∷ []) m y → 1 ≤ y.number
     earliest zero y r = absurd (not_set (r.rests_on_set 1 var_b is_b a_needs_b))
@@ -157,14 +157,14 @@ a_is_next = record {
   earliest = λ m y r. omega arith;
 }
   where
-    not_set : Contains (1 ∷ 2 ∷ []) 0 → ⊥
-    not_set h = of_each (λ k. k ≡ 0 → ⊥) (1 ∷ 2 ∷ []) ((λ e. cc), ((λ e. cc), tt)) 0 h refl
+    not_set : Contains {X = ℕ} (1 ∷ 2 ∷ []) 0 → ⊥
+    not_set h = of_each {X = ℕ} (λ k. k ≡ 0 → ⊥) (1 ∷ 2 ∷ []) ((λ e. cc), ((λ e. cc), tt)) 0 h refl
 
-    among : (m : ℕ) → (1 ≡ m) ⊎ (2 ≡ m) → Contains (1 ∷ 2 ∷ []) m
-    among m (inl e) = subst (Contains (1 ∷ 2 ∷ [])) e (here 1 (2 ∷ []))
-    among m (inr e) = subst (Contains (1 ∷ 2 ∷ [])) e (further 2 1 (2 ∷ []) (here 2 []))
+    among : (m : ℕ) → (1 ≡ m) ⊎ (2 ≡ m) → Contains {X = ℕ} (1 ∷ 2 ∷ []) m
+    among m (inl e) = subst (Contains {X = ℕ} (1 ∷ 2 ∷ [])) e (here 1 (2 ∷ []))
+    among m (inr e) = subst (Contains {X = ℕ} (1 ∷ 2 ∷ [])) e (further 2 1 (2 ∷ []) (here 2 []))
 
-all_there : (n : ℕ) (x : PackageVar) → IsVariableOf by_need [] n x → Contains (0 ∷ 1 ∷ 2 ∷ []) n
+all_there : (n : ℕ) (x : PackageVar) → IsVariableOf by_need [] n x → Contains {X = ℕ} (0 ∷ 1 ∷ 2 ∷ []) n
 all_there zero x v = (0, omega arith, refl)
 all_there (suc zero) x v = (1, omega arith, refl)
 all_there (suc (suc zero)) x v = (2, omega arith, refl)
