@@ -11,9 +11,9 @@ use go_core::statement::{
 };
 use js_body::Body;
 use js_values::calls::defer_call;
+use js_values::expr::{expr, exprs};
 use js_values::ranges::{begin_range, has_next, take_next};
-use js_values::simple::callee_and_operands;
-use js_values::{expr, exprs, simple};
+use js_values::simple::{callee_and_operands, simple};
 
 /// Statements, first to last.
 #[cycle(stmt)]

@@ -8,8 +8,9 @@ use crate::control::{
 use go_core::node::CoreExpr;
 use go_core::statement::{CoreClauses, CoreStmt, CoreStmtForm, CoreStmts, CoreTest, Label};
 use js_body::Body;
+use js_values::expr::{expr, exprs};
 use js_values::ranges::{begin_range, has_next, take_next};
-use js_values::{expr, exprs, simple};
+use js_values::simple::simple;
 
 /// Statements, first to last.
 #[cycle(stmt)]

@@ -29,7 +29,7 @@ pub enum Called {
 }
 
 /// What is called; a value that it needs stands on the stack.
-pub fn called(b: &mut Body<'_>, callee: &Callee) -> Called {
+pub fn callee_of(b: &mut Body<'_>, callee: &Callee) -> Called {
     match callee {
         Callee::Function(id) => Called::Function(*id),
         Callee::Method(method) => called_method(b, method),

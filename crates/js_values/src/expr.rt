@@ -1,7 +1,7 @@
 //! Expressions: the parts of each are evaluated from left to right, and its step joins their values. Go
 //! specification (as of Go 1.17), "Expressions", "Order of evaluation".
 
-use crate::calls::{bind_dynamic, bind_method, call, called, closure};
+use crate::calls::{bind_dynamic, bind_method, call, callee_of, closure};
 use crate::channels::{gate_add, gate_make, make_chan, receive, recover};
 use crate::compare::{equal, less, not};
 use crate::composites::{
@@ -212,7 +212,7 @@ pub fn expr<'p>(b: &mut Body<'p>, e: &'p CoreExpr) {
                 _ => {}
             }
             exprs(b, &operands.items);
-            let c = called(b, callee);
+            let c = callee_of(b, callee);
             call(b, c, from, results.as_slice().len());
         }
         CoreForm::MapGet {

@@ -23,6 +23,3 @@ pub mod simple;
 pub mod slices;
 pub mod stores;
 pub mod strings;
-
-pub use expr::{expr, exprs};
-pub use simple::simple;

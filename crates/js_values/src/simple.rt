@@ -1,6 +1,6 @@
 //! Statements that neither branch nor wait: Go specification (as of Go 1.17), "Statements".
 
-use crate::calls::{called, go_call};
+use crate::calls::{callee_of, go_call};
 use crate::expr::{expr, exprs};
 use crate::maps::map_delete;
 use crate::numbers::low_bits;
@@ -80,7 +80,7 @@ pub fn callee_and_operands<'p>(
         _ => {}
     }
     exprs(b, &operands.items);
-    called(b, callee)
+    callee_of(b, callee)
 }
 
 fn exit<'p>(b: &mut Body<'p>, e: &'p CoreExpr) {
