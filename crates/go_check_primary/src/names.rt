@@ -2,7 +2,6 @@
 
 use gj_base::{NoMemory, Place, Text};
 use go_check_state::node::{ConstId, FuncRef, Node, PlaceNode, VarRef};
-use go_check_state::scope::UNIVERSE;
 use go_check_state::state::Colour;
 use go_check_state::{BLANK, Checker, Entity, FaultCode, INIT, Mode, NONE, NameId, Operand};
 use go_type::predeclared::untyped_id;
@@ -137,7 +136,6 @@ pub fn member(
     if !c.is_exported(id) {
         return no_member(c, place, at, id, FaultCode::NotExported);
     }
-    let _ = UNIVERSE;
     object(c, place, found)
 }
 
