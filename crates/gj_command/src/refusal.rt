@@ -97,10 +97,9 @@ fn refuse_beyond<E: Sink>(fault: Fault, sources: &Sources, err: &mut E) -> Outco
     ensures { (line : List ℕ) × IsToldBeyond result line × Told line (E.state err.old) (E.state err.new) }
 {
     let place = fault.place;
-    if place.file as usize >= sources.as_slice().len() {
+    let Some(entry) = sources.as_slice().get(place.file as usize) else {
         return internal(err);
-    }
-    let entry = &sources.as_slice()[place.file as usize];
+    };
     if entry.bytes.as_bytes().len() > FILE_LIMIT {
         return internal(err);
     }
