@@ -228,16 +228,15 @@ fn method(
         read(c, place, w)?
     };
     let of = if entry.pointer { c.pointer_to(t)? } else { t };
-    let body = c.nodes.expr(
-        place,
-        Node::Bind {
-            ty: entry.sig,
-            of,
-            name,
-            package: c.package_of(name),
-            receiver,
-        },
-    )?;
+    let package = c.package_of(name);
+    let node = Node::Bind {
+        ty: entry.sig,
+        of,
+        name,
+        package,
+        receiver,
+    };
+    let body = c.nodes.expr(place, node)?;
     bound(c, place, x, w, entry.sig, body)
 }
 
