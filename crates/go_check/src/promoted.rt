@@ -8,6 +8,7 @@ use go_check_primary::selectors::selector;
 use go_check_state::node::{PlaceNode, Span, VarRef};
 use go_check_state::state::MethodEntry;
 use go_check_state::{Checker, EMPTY, FuncRow, NO_OBJECT, NONE, NameId, Operand, Shape};
+use go_check_stmt::hold::set_body;
 use go_check_stmt::sides::{return_sides, sides};
 use go_check_stmt::start::performed;
 use go_type::Methods;
@@ -96,7 +97,7 @@ fn promoted_rows(c: &mut Checker, rows: &mut Vec<MethodSpec>, t: TypeId) -> Resu
         return Ok(());
     }
     let pointer = c.pointer_to(t)?;
-    if !c.has(pointer) {
+    if !c.has(pointer) || !c.has(t) {
         return Ok(());
     }
     let all = c.types.method_set(c.alloc, pointer)?;
@@ -206,9 +207,6 @@ fn wrapper(
     };
     c.current = None;
     let params = c.nodes.list(vars.as_slice())?;
-    if (func.0 as usize) < c.funcs.len() {
-        c.funcs[func.0 as usize].params = params;
-        c.funcs[func.0 as usize].body = Some(body);
-    }
+    set_body(c, func.0, params, body);
     Ok(func.0)
 }

@@ -107,21 +107,20 @@ fn next(list: &mut Vec<u32>, at: u32) -> u32 {
     0
 }
 
-fn push_number(text: &mut Text, number: u32) -> Result<(), NoMemory> {
-    let mut digits = [b'0'; 10];
+// A number in decimal.
+fn push_number(c: &Checker, text: &mut Text, number: u32) -> Result<(), NoMemory> {
+    let mut digits: Vec<u8> = Vec::new(c.alloc);
     let mut rest = number;
-    let mut at = 10usize;
     for _ in 0..10u32 {
-        if at > 0 {
-            at -= 1;
-            digits[at] = b'0' + (rest % 10) as u8;
-            rest /= 10;
-        }
+        let digit = b"0123456789".get((rest % 10) as usize).copied().unwrap_or(b'0');
+        digits.push(digit)?;
+        rest /= 10;
         if rest == 0 {
             break;
         }
     }
-    text.push_bytes(&digits[at..])?;
+    digits.reverse();
+    text.push_bytes(digits.as_slice())?;
     Ok(())
 }
 
@@ -189,7 +188,7 @@ pub fn name(c: &Checker, counts: &mut Counts, id: u32) -> Result<Text, NoMemory>
     text.push_bytes(c.names.text(row.name).as_bytes())?;
     if row.name == INIT && row.receiver.is_none() {
         text.push_bytes(b".")?;
-        push_number(&mut text, next(&mut counts.inits, row.package))?;
+        push_number(c, &mut text, next(&mut counts.inits, row.package))?;
     }
     if (id as usize) < counts.names.len() {
         counts.names[id as usize] = text.clone()?;
@@ -206,7 +205,7 @@ fn literal_name(c: &Checker, counts: &mut Counts, id: u32, row: FuncRow) -> Resu
     if is_loose {
         let mut text = prefix(c, row.package)?;
         text.push_bytes(b"$")?;
-        push_number(&mut text, next(&mut counts.loose, row.package))?;
+        push_number(c, &mut text, next(&mut counts.loose, row.package))?;
         return Ok(text);
     }
     let mut text = match counts.names.get(top as usize) {
@@ -214,6 +213,6 @@ fn literal_name(c: &Checker, counts: &mut Counts, id: u32, row: FuncRow) -> Resu
         None => Text::new(c.alloc),
     };
     text.push_bytes(b"$")?;
-    push_number(&mut text, next(&mut counts.literals, top))?;
+    push_number(c, &mut text, next(&mut counts.literals, top))?;
     Ok(text)
 }

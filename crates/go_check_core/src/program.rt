@@ -59,10 +59,11 @@ fn captured(c: &Checker) -> Result<(Vec<usize>, Vec<u32>), NoMemory> {
     let mut vars: Vec<u32> = Vec::new(c.alloc);
     for pair in c.captures.iter() {
         let func = (*pair / 4294967296) as usize;
+        let var = *pair % 4294967296;
         for _ in starts.len()..func.saturating_add(1) {
             starts.push(vars.len())?;
         }
-        vars.push((*pair % 4294967296) as u32)?;
+        vars.push(if var <= u32::MAX as u64 { var as u32 } else { 0 })?;
     }
     for _ in starts.len()..c.funcs.len().saturating_add(1) {
         starts.push(vars.len())?;

@@ -260,7 +260,7 @@ impl<'a> Making<'a> {
         let mut items: Vec<CoreClause> = Vec::new(self.alloc);
         for number in (0..clauses.len / 2).rev() {
             let body = self.take_block();
-            let falls_through = self.c.nodes.item(clauses, number * 2 + 1) == 1;
+            let falls_through = self.c.nodes.item(clauses, number.saturating_mul(2).saturating_add(1)) == 1;
             items.push(CoreClause {
                 body,
                 falls_through,
@@ -273,7 +273,7 @@ impl<'a> Making<'a> {
     fn take_tests(&mut self, tests: Span) -> Result<CoreTests, NoMemory> {
         let mut items: Vec<CoreTest> = Vec::new(self.alloc);
         for number in (0..tests.len / 2).rev() {
-            let clause = self.c.nodes.item(tests, number * 2 + 1);
+            let clause = self.c.nodes.item(tests, number.saturating_mul(2).saturating_add(1));
             let condition = self.take()?;
             items.push(CoreTest {
                 condition: condition.core,
@@ -298,7 +298,7 @@ impl<'a> Making<'a> {
     fn take_cases(&mut self, cases: Span) -> Result<CoreCases, NoMemory> {
         let mut items: Vec<CoreCase> = Vec::new(self.alloc);
         for number in (0..cases.len / 2).rev() {
-            let id = StmtId(self.c.nodes.item(cases, number * 2));
+            let id = StmtId(self.c.nodes.item(cases, number.saturating_mul(2)));
             let communication = self.take_communication(id)?;
             let body = self.take_block();
             items.push(CoreCase {

@@ -82,7 +82,7 @@ impl<'a> Making<'a> {
             StmtNode::SwitchOn { tests, clauses, .. } => {
                 self.open_each(clauses, 0)?;
                 for number in (0..tests.len / 2).rev() {
-                    let test = NodeId(self.c.nodes.item(tests, number * 2));
+                    let test = NodeId(self.c.nodes.item(tests, number.saturating_mul(2)));
                     self.todo(Task::Expr(test))?;
                 }
                 Ok(())
@@ -106,7 +106,7 @@ impl<'a> Making<'a> {
     // The bodies in a list of pairs, each at a place of its pair.
     fn open_each(&mut self, pairs: Span, at: u32) -> Result<(), NoMemory> {
         for number in (0..pairs.len / 2).rev() {
-            let item = (number * 2).saturating_add(at);
+            let item = number.saturating_mul(2).saturating_add(at);
             let body = StmtId(self.c.nodes.item(pairs, item));
             self.todo(Task::Open(body))?;
         }
@@ -116,7 +116,7 @@ impl<'a> Making<'a> {
     // The operands of communications.
     fn visit_cases(&mut self, cases: Span) -> Result<(), NoMemory> {
         for number in (0..cases.len / 2).rev() {
-            let id = StmtId(self.c.nodes.item(cases, number * 2));
+            let id = StmtId(self.c.nodes.item(cases, number.saturating_mul(2)));
             match self.stmt(id) {
                 StmtNode::Send { operand, value, .. } => self.two(operand, value)?,
                 StmtNode::Received { operand, .. } => self.todo(Task::Expr(operand))?,

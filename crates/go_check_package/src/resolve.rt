@@ -279,7 +279,7 @@ fn set_initialiser(
     let Some(name) = u.names.get(row.start).copied() else {
         return Ok(());
     };
-    if !c.blockers.is_empty() || (name.global as usize) >= c.globals.len() {
+    if !c.blockers.is_empty() {
         return Ok(());
     }
     let node = match values.first().copied() {
@@ -287,6 +287,8 @@ fn set_initialiser(
         Some(_) => several_values(c, name.place, sides, values)?,
         None => None,
     };
-    c.globals[name.global as usize].initialiser = node;
+    if let Some(row) = c.globals.as_mut_slice().get_mut(name.global as usize) {
+        row.initialiser = node;
+    }
     Ok(())
 }

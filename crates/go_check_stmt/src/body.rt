@@ -1,6 +1,7 @@
 //! Bodies of functions and of function literals. Go, "Function declarations", "Function literals".
 
 use crate::frame::Frame;
+use crate::hold::set_body;
 use crate::labels::labels_in;
 use crate::literals::{Literals, in_stmts};
 use crate::stmt::{NONE_OF_THEM, stmt_list};
@@ -192,9 +193,6 @@ fn function_body(c: &mut Checker, body: BodyRow<'_>) -> Result<(), NoMemory> {
         c.fault(FaultCode::MissingReturn, block.end)?;
     }
     let params = c.nodes.list(vars.as_slice())?;
-    if (body.func as usize) < c.funcs.len() {
-        c.funcs[body.func as usize].body = Some(core);
-        c.funcs[body.func as usize].params = params;
-    }
+    set_body(c, body.func, params, core);
     Ok(())
 }

@@ -42,6 +42,14 @@ pub fn store_one(c: &mut Checker, target: Target, value: NodeId) -> Result<StmtI
     c.nodes.stmt(StmtNode::Store { targets, values })
 }
 
+/// Gives a function its variables, which are receiver, parameters and results, and its body.
+pub fn set_body(c: &mut Checker, func: u32, params: Span, body: StmtId) {
+    if let Some(row) = c.funcs.as_mut_slice().get_mut(func as usize) {
+        row.params = params;
+        row.body = Some(body);
+    }
+}
+
 /// The type of a variable.
 pub fn var_type(c: &Checker, var: VarRef) -> TypeId {
     match c.vars.get(var.0 as usize) {

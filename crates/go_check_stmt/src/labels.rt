@@ -6,6 +6,7 @@ use go_check_state::{BLANK, Checker, FaultCode};
 use go_syntax::tree::{Block, Name, Stmt, StmtForm};
 
 /// The labels of statements: F82 at a second one.
+#[cycle(labels)]
 pub fn labels_in(c: &mut Checker, f: &mut Frame, list: &Vec<Stmt>) -> Result<(), NoMemory> {
     for s in list {
         label_of(c, f, s)?;
@@ -13,6 +14,7 @@ pub fn labels_in(c: &mut Checker, f: &mut Frame, list: &Vec<Stmt>) -> Result<(),
     Ok(())
 }
 
+#[cycle(labels)]
 fn in_block(c: &mut Checker, f: &mut Frame, block: &Block) -> Result<(), NoMemory> {
     labels_in(c, f, &block.stmts)
 }
@@ -30,6 +32,7 @@ fn add(c: &mut Checker, f: &mut Frame, name: &Name) -> Result<(), NoMemory> {
     Ok(())
 }
 
+#[cycle(labels)]
 fn label_of(c: &mut Checker, f: &mut Frame, s: &Stmt) -> Result<(), NoMemory> {
     match &*s.form {
         StmtForm::Labeled(name, s) => {

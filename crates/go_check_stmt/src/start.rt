@@ -2,7 +2,7 @@
 //! "Defer statements".
 
 use crate::callee::{Called, called};
-use crate::hold::{declare_all, node_type, nothing, read_var, sequence};
+use crate::hold::{declare_all, node_type, nothing, read_var, sequence, set_body};
 use crate::select::is_receive;
 use gj_base::{NoMemory, Place};
 use go_check_expr::expr::expr;
@@ -169,10 +169,7 @@ fn start_builtin(
     let params = made_params(c, place, func, operands)?;
     let body = made_body(c, place, node, params)?;
     c.current = outer;
-    if (func.0 as usize) < c.funcs.len() {
-        c.funcs[func.0 as usize].params = params;
-        c.funcs[func.0 as usize].body = Some(body);
-    }
+    set_body(c, func.0, params, body);
     started(c, Callee::Function(func), operands, defers)
 }
 

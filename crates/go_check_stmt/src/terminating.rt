@@ -5,12 +5,17 @@ use go_check_state::Checker;
 use go_check_state::state::joined;
 use go_syntax::tree::{Clause, Comm, Expr, ExprForm, Name, Stmt, StmtForm};
 
-/// Whether a list of statements ends in a terminating one.
+/// Whether a list of statements ends in a terminating one: its last that isn't empty.
+#[cycle(terminating)]
 pub fn ends(c: &Checker, list: &Vec<Stmt>) -> bool {
-    match last(list) {
-        Some(s) => is_terminating(c, s, None),
-        None => false,
+    let mut out = false;
+    for s in list {
+        match &*s.form {
+            StmtForm::Empty => {}
+            _ => out = is_terminating(c, s, None),
+        }
     }
+    out
 }
 
 // The last statement that isn't empty.
@@ -24,6 +29,7 @@ fn last(list: &Vec<Stmt>) -> Option<&Stmt> {
     None
 }
 
+#[cycle(terminating)]
 fn is_terminating(c: &Checker, s: &Stmt, label: Option<&Name>) -> bool {
     match &*s.form {
         StmtForm::Return(_) => true,
@@ -68,6 +74,7 @@ fn falls(s: &Stmt) -> bool {
     }
 }
 
+#[cycle(terminating)]
 fn clauses_end(c: &Checker, clauses: &Vec<Clause>, label: Option<&Name>) -> bool {
     let mut has_default = false;
     for clause in clauses {
@@ -84,6 +91,7 @@ fn clauses_end(c: &Checker, clauses: &Vec<Clause>, label: Option<&Name>) -> bool
     has_default
 }
 
+#[cycle(terminating)]
 fn comms_end(c: &Checker, comms: &Vec<Comm>, label: Option<&Name>) -> bool {
     for comm in comms {
         if !ends(c, &comm.body) || leaves(&comm.body, label, true) {
@@ -94,6 +102,7 @@ fn comms_end(c: &Checker, comms: &Vec<Comm>, label: Option<&Name>) -> bool {
 }
 
 // Whether a `break` among the statements leaves the one around: by its label, or without one where `plain`.
+#[cycle(leaving)]
 fn leaves(list: &Vec<Stmt>, label: Option<&Name>, plain: bool) -> bool {
     for s in list {
         if stmt_leaves(s, label, plain) {
@@ -110,6 +119,7 @@ fn is_label(name: &Text, label: Option<&Name>) -> bool {
     }
 }
 
+#[cycle(leaving)]
 fn stmt_leaves(s: &Stmt, label: Option<&Name>, plain: bool) -> bool {
     match &*s.form {
         StmtForm::Break(None) => plain,
@@ -139,6 +149,7 @@ fn stmt_leaves(s: &Stmt, label: Option<&Name>, plain: bool) -> bool {
     }
 }
 
+#[cycle(leaving)]
 fn clauses_leave(clauses: &Vec<Clause>, label: Option<&Name>) -> bool {
     for clause in clauses {
         if leaves(&clause.body, label, false) {
