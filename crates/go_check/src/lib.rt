@@ -4,9 +4,9 @@
 //! The Go Programming Language Specification (as of Go 1.17).
 #![tactic(auto)]
 
-pub mod check;
+pub mod checking;
 pub mod hidden;
 pub mod limits;
 pub mod promoted;
 
-pub use check::check;
+pub use checking::check;

@@ -9,7 +9,7 @@ use go_check_state::node::{PlaceNode, Span, VarRef};
 use go_check_state::state::MethodEntry;
 use go_check_state::{Checker, EMPTY, FuncRow, NO_OBJECT, NONE, NameId, Operand, Shape};
 use go_check_stmt::hold::set_body;
-use go_check_stmt::sides::{return_sides, sides};
+use go_check_stmt::sides::{one_each, return_sides};
 use go_check_stmt::start::performed;
 use go_type::Methods;
 use go_type::types::{GoType, NamedId, TypeId};
@@ -200,7 +200,7 @@ fn wrapper(
     } else {
         let mut one: Vec<Operand> = Vec::new(c.alloc);
         one.push(x)?;
-        match sides(c, one, results)? {
+        match one_each(c, one, results)? {
             Some(sides) => return_sides(c, &sides, &sides.values)?,
             None => performed(c, x)?,
         }

@@ -12,9 +12,9 @@ pub mod leaves;
 pub mod making;
 pub mod numbers;
 pub mod places;
-pub mod program;
 pub mod stmts;
 pub mod visit;
 pub mod visit_stmt;
+pub mod whole;
 
-pub use program::{Beside, MethodSpec, program};
+pub use whole::{Beside, MethodSpec, program};

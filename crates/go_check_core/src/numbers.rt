@@ -112,7 +112,10 @@ fn push_number(c: &Checker, text: &mut Text, number: u32) -> Result<(), NoMemory
     let mut digits: Vec<u8> = Vec::new(c.alloc);
     let mut rest = number;
     for _ in 0..10u32 {
-        let digit = b"0123456789".get((rest % 10) as usize).copied().unwrap_or(b'0');
+        let digit = b"0123456789"
+            .get((rest % 10) as usize)
+            .copied()
+            .unwrap_or(b'0');
         digits.push(digit)?;
         rest /= 10;
         if rest == 0 {

@@ -260,7 +260,11 @@ impl<'a> Making<'a> {
         let mut items: Vec<CoreClause> = Vec::new(self.alloc);
         for number in (0..clauses.len / 2).rev() {
             let body = self.take_block();
-            let falls_through = self.c.nodes.item(clauses, number.saturating_mul(2).saturating_add(1)) == 1;
+            let falls_through = self
+                .c
+                .nodes
+                .item(clauses, number.saturating_mul(2).saturating_add(1))
+                == 1;
             items.push(CoreClause {
                 body,
                 falls_through,
@@ -273,7 +277,10 @@ impl<'a> Making<'a> {
     fn take_tests(&mut self, tests: Span) -> Result<CoreTests, NoMemory> {
         let mut items: Vec<CoreTest> = Vec::new(self.alloc);
         for number in (0..tests.len / 2).rev() {
-            let clause = self.c.nodes.item(tests, number.saturating_mul(2).saturating_add(1));
+            let clause = self
+                .c
+                .nodes
+                .item(tests, number.saturating_mul(2).saturating_add(1));
             let condition = self.take()?;
             items.push(CoreTest {
                 condition: condition.core,

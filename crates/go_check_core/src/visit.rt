@@ -134,7 +134,11 @@ impl<'a> Making<'a> {
     // The values of a list of indexes and values.
     fn every_other(&mut self, list: Span) -> Result<(), NoMemory> {
         for number in (0..list.len / 2).rev() {
-            let id = NodeId(self.c.nodes.item(list, number.saturating_mul(2).saturating_add(1)));
+            let id = NodeId(
+                self.c
+                    .nodes
+                    .item(list, number.saturating_mul(2).saturating_add(1)),
+            );
             self.todo(Task::Expr(id))?;
         }
         Ok(())

@@ -1,7 +1,7 @@
 //! Which package imports which, and an order in which imported packages come first. Go, "Import
 //! declarations", "Package initialization".
 
-use crate::check::{FileRow, PackageRow};
+use crate::stage::{FileRow, PackageRow};
 use gj_base::NoMemory;
 use go_check_state::Checker;
 use std::collections::HashMap;
@@ -29,7 +29,7 @@ impl Imports {
 }
 
 /// The imports of packages, the root among them, whose paths the checker gets.
-pub fn imports(
+pub fn find_imports(
     c: &mut Checker,
     packages: &[PackageRow<'_>],
     files: &[FileRow<'_>],

@@ -13,7 +13,7 @@ use go_check_operand::assignment::default_value;
 use go_check_state::state::Colour;
 use go_check_state::{Checker, Entity, FaultCode, NO_OBJECT, NONE, Operand};
 use go_check_stmt::local::const_entity;
-use go_check_stmt::sides::{Sides, as_type, sides};
+use go_check_stmt::sides::{Sides, as_type, one_each};
 use go_syntax::tree::{Expr, Sig, TypeSpec};
 use go_type::types::TypeId;
 
@@ -231,7 +231,7 @@ fn initial_values(
 ) -> Result<Sides, NoMemory> {
     let mut one: Vec<Operand> = Vec::new(c.alloc);
     one.push(x)?;
-    match sides(c, one, row.len)? {
+    match one_each(c, one, row.len)? {
         Some(sides) => Ok(sides),
         None => {
             if let Some(name) = u.names.get(row.start).copied() {

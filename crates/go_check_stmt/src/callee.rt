@@ -14,15 +14,15 @@ pub enum Called {
 }
 
 /// What the operand of a call is.
-pub fn called(c: &mut Checker, f: &Expr) -> Result<Called, NoMemory> {
+pub fn what_is_called(c: &mut Checker, f: &Expr) -> Result<Called, NoMemory> {
     match &*f.form {
-        ExprForm::Paren(x) => called(c, x),
+        ExprForm::Paren(x) => what_is_called(c, x),
         ExprForm::Name(text) => named(c, text),
         ExprForm::Select(x, name) => match &*x.form {
             ExprForm::Name(text) => member(c, text, &name.text),
             _ => Ok(Called::Other),
         },
-        ExprForm::Unary(Prefix::Star, x) => match called(c, x)? {
+        ExprForm::Unary(Prefix::Star, x) => match what_is_called(c, x)? {
             Called::Type => Ok(Called::Type),
             _ => Ok(Called::Other),
         },

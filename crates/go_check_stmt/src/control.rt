@@ -2,7 +2,7 @@
 
 use crate::frame::Frame;
 use crate::hold::{both, nothing};
-use crate::sides::{Sides, as_type, exprs, return_sides, sides};
+use crate::sides::{Sides, as_type, exprs, one_each, return_sides};
 use gj_base::{NoMemory, Place};
 use go_check_expr::expr::expr;
 use go_check_operand::assignment::{default_value, single_value};
@@ -147,7 +147,7 @@ fn returned(
         _ => false,
     };
     if is_several {
-        return sides(c, values, count);
+        return one_each(c, values, count);
     }
     if values.len() != count {
         return Ok(None);

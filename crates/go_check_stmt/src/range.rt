@@ -40,7 +40,7 @@ pub struct Head {
 }
 
 // F94 over another type, F97 against the direction of a channel.
-fn gives(c: &mut Checker, place: Place, x: Operand) -> Result<Option<Gives>, NoMemory> {
+fn what_it_gives(c: &mut Checker, place: Place, x: Operand) -> Result<Option<Gives>, NoMemory> {
     let int = int_id(IntName::Int);
     let most = 2;
     let rows = match c.shape(x.ty) {
@@ -116,7 +116,7 @@ pub fn range_head(
     let what = if x.is_unknown() {
         None
     } else {
-        gives(c, place, x)?
+        what_it_gives(c, place, x)?
     };
     if let Some(what) = what {
         if left.len() > what.most {

@@ -44,11 +44,11 @@ pub fn right_sides(
     count: usize,
 ) -> Result<Option<Sides>, NoMemory> {
     let values = exprs(c, list)?;
-    sides(c, values, count)
+    one_each(c, values, count)
 }
 
 /// The same of operands.
-pub fn sides(
+pub fn one_each(
     c: &mut Checker,
     values: Vec<Operand>,
     count: usize,

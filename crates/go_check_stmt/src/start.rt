@@ -1,7 +1,7 @@
 //! Calls that stand as statements, and `go` and `defer`. Go, "Expression statements", "Go statements",
 //! "Defer statements".
 
-use crate::callee::{Called, called};
+use crate::callee::{Called, what_is_called};
 use crate::hold::{declare_all, node_type, nothing, read_var, sequence, set_body};
 use crate::select::is_receive;
 use gj_base::{NoMemory, Place};
@@ -31,7 +31,7 @@ fn is_statement(c: &mut Checker, e: &Expr) -> Result<bool, NoMemory> {
     match &*e.form {
         ExprForm::Paren(x) => is_statement(c, x),
         ExprForm::Call(callee, _, _) => {
-            let called = called(c, callee)?;
+            let called = what_is_called(c, callee)?;
             if called == Called::Builtin(Builtin::Panic) {
                 c.panics.insert(joined(e.place.file, e.place.offset))?;
             }
@@ -114,7 +114,7 @@ fn may_start(called: Called) -> bool {
 /// `go f(x)` or `defer f(x)`: F96 at all but a call.
 pub fn start(c: &mut Checker, place: Place, e: &Expr, defers: bool) -> Result<StmtId, NoMemory> {
     let is_call = match &*e.form {
-        ExprForm::Call(callee, _, _) => may_start(called(c, callee)?),
+        ExprForm::Call(callee, _, _) => may_start(what_is_called(c, callee)?),
         _ => false,
     };
     let x = expr(c, e)?;

@@ -4,7 +4,7 @@ use crate::bodies::{embedded_pointers, functions, initialisers};
 use crate::collect::collect;
 use crate::cycles::tell_cycles;
 use crate::imports::{ImportRow, import, tell_unused};
-use crate::order::{Imports, imports};
+use crate::order::{Imports, find_imports};
 use crate::resolve::{enter, resolve};
 use crate::unit::{UnitForm, Units};
 use gj_base::{NoMemory, Text};
@@ -35,7 +35,7 @@ pub fn check(
     packages: &[PackageRow<'_>],
     files: &[FileRow<'_>],
 ) -> Result<Vec<(u32, u32)>, NoMemory> {
-    let i = imports(c, packages, files)?;
+    let i = find_imports(c, packages, files)?;
     let mut starts: Vec<usize> = Vec::new(c.alloc);
     let mut at = 0usize;
     for file in files {

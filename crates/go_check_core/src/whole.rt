@@ -63,7 +63,11 @@ fn captured(c: &Checker) -> Result<(Vec<usize>, Vec<u32>), NoMemory> {
         for _ in starts.len()..func.saturating_add(1) {
             starts.push(vars.len())?;
         }
-        vars.push(if var <= u32::MAX as u64 { var as u32 } else { 0 })?;
+        vars.push(if var <= u32::MAX as u64 {
+            var as u32
+        } else {
+            0
+        })?;
     }
     for _ in starts.len()..c.funcs.len().saturating_add(1) {
         starts.push(vars.len())?;
