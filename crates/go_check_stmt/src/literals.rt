@@ -111,7 +111,6 @@ fn in_stmt<'a>(l: &mut Literals<'a>, s: &'a Stmt) -> Result<(), NoMemory> {
     }
 }
 
-#[cycle(literals)]
 fn in_decl<'a>(l: &mut Literals<'a>, d: &'a Decl) -> Result<(), NoMemory> {
     match &*d.form {
         DeclForm::Const(specs) | DeclForm::Var(specs) => {
@@ -124,12 +123,11 @@ fn in_decl<'a>(l: &mut Literals<'a>, d: &'a Decl) -> Result<(), NoMemory> {
     }
 }
 
-#[cycle(literals)]
 fn in_spec<'a>(l: &mut Literals<'a>, spec: &'a ValueSpec) -> Result<(), NoMemory> {
     in_exprs(l, &spec.values)
 }
 
-#[cycle(literals)]
+#[cycle(operands)]
 fn in_exprs<'a>(l: &mut Literals<'a>, list: &'a Vec<Expr>) -> Result<(), NoMemory> {
     for e in list {
         in_expr(l, e)?;
@@ -137,7 +135,7 @@ fn in_exprs<'a>(l: &mut Literals<'a>, list: &'a Vec<Expr>) -> Result<(), NoMemor
     Ok(())
 }
 
-#[cycle(literals)]
+#[cycle(operands)]
 fn in_elems<'a>(l: &mut Literals<'a>, list: &'a Vec<Elem>) -> Result<(), NoMemory> {
     for elem in list {
         if let Some(key) = &elem.key {
@@ -149,7 +147,7 @@ fn in_elems<'a>(l: &mut Literals<'a>, list: &'a Vec<Elem>) -> Result<(), NoMemor
 }
 
 /// Those of an expression.
-#[cycle(literals)]
+#[cycle(operands)]
 pub fn in_expr<'a>(l: &mut Literals<'a>, e: &'a Expr) -> Result<(), NoMemory> {
     match &*e.form {
         ExprForm::Func(sig, block) => {
