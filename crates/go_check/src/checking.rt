@@ -3,7 +3,7 @@
 use crate::hidden::hidden;
 use crate::limits::{tell_made, tell_written};
 use crate::promoted::method_rows;
-use gj_base::{Fault, NoMemory, Refusal, Text};
+use gj_base::{Fault, NoMemory, Refusal};
 use go_check_core::{Beside, program};
 use go_check_package::{FileRow, PackageRow, least};
 use go_check_state::state::FaultRow;
@@ -69,11 +69,9 @@ fn gather<'a>(
     Ok(())
 }
 
-// A fault with its text.
+// A fault with the name that is told of it.
 fn refusal(c: &Checker, row: FaultRow) -> Result<Refusal, NoMemory> {
-    let mut text = Text::from_slice(c.alloc, row.code.before())?;
-    text.push_bytes(c.names.text(row.name).as_bytes())?;
-    text.push_bytes(row.code.after())?;
+    let text = c.names.copy(row.name)?;
     Ok(Refusal::Fault(Fault {
         place: row.place,
         code: row.code.number(),
