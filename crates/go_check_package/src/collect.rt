@@ -10,6 +10,7 @@ use go_check_stmt::local::{counts_match, repeated};
 use go_syntax::tree::{
     Block, Decl, DeclForm, File, Name, Params, Results, Sig, TypeSpec, ValueSpec,
 };
+use go_type::types::TypeId;
 
 /// Collects the declarations of a file of the present package.
 pub fn collect<'a>(c: &mut Checker, u: &mut Units<'a>, file: &'a File) -> Result<(), NoMemory> {
@@ -148,11 +149,20 @@ fn type_spec<'a>(c: &mut Checker, u: &mut Units<'a>, spec: &'a TypeSpec) -> Resu
             // A second or blank name has no object to keep the type.
             let len = u.names.len();
             if len > 0 {
-                u.names[len - 1].global = t.0 as u32;
+                u.names[len - 1].global = small(t);
             }
         }
     }
     add_unit(c, u, UnitForm::Type(spec), 1, 0)
+}
+
+// The number of a type, which is small in any program that fits its limits.
+fn small(t: TypeId) -> u32 {
+    if t.0 <= u32::MAX as u64 {
+        t.0 as u32
+    } else {
+        u32::MAX
+    }
 }
 
 fn add_global(

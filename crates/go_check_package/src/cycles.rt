@@ -36,7 +36,7 @@ fn needs_itself(c: &Checker, u: &Units<'_>, unit: u32) -> Result<bool, NoMemory>
 pub fn tell_cycles(c: &mut Checker, u: &Units<'_>) -> Result<(), NoMemory> {
     for unit in 0..u.rows.len() {
         let stuck = c.units.get(unit).copied() == Some(Colour::Stuck);
-        if stuck && needs_itself(c, u, unit as u32)? {
+        if stuck && unit <= u32::MAX as usize && needs_itself(c, u, unit as u32)? {
             if let Some(row) = u.rows.get(unit).copied() {
                 for number in row.start..row.start.saturating_add(row.len) {
                     if let Some(name) = u.names.get(number).copied() {

@@ -135,7 +135,7 @@ fn resolve_all(c: &mut Checker, u: &mut Units<'_>) -> Result<(), NoMemory> {
     for turn in 0..3u32 {
         for number in 0..u.rows.len() {
             if let Some(row) = u.rows.get(number).copied() {
-                if turn_of(row.form) == turn {
+                if turn_of(row.form) == turn && number <= u32::MAX as usize {
                     resolve(c, u, number as u32)?;
                 }
             }

@@ -88,8 +88,13 @@ pub fn stmt(c: &mut Checker, f: &mut Frame, s: &Stmt) -> Result<StmtId, NoMemory
                 None => None,
             };
             let post = match post {
-                Some(s) if declares(c, s)? => None,
-                Some(s) => Some(stmt(c, f, s)?),
+                Some(s) => {
+                    if declares(c, s)? {
+                        None
+                    } else {
+                        Some(stmt(c, f, s)?)
+                    }
+                }
                 None => None,
             };
             let number = f.enter(c, label, true)?;
