@@ -143,19 +143,28 @@ fn is_bare(e: &Expr) -> bool {
     }
 }
 
+// Whether all elements of such a literal have a key, or none has.
+fn has_one_form(kind: Kind) -> bool {
+    match kind {
+        Kind::Struct | Kind::Map => true,
+        _ => false,
+    }
+}
+
 // F69 at the first element whose form differs from the first one's.
 fn one_form(c: &mut Checker, b: &mut Building, elem: &Elem) -> Result<(), NoMemory> {
     let has = elem.key.is_some();
-    match (b.head.kind, b.keyed) {
-        (Kind::Struct, Some(keyed)) | (Kind::Map, Some(keyed)) if keyed != has => {
-            if b.known {
-                c.fault(FaultCode::BadLiteral, elem_place(elem))?;
-            }
-            b.known = false;
-        }
-        (_, None) => b.keyed = Some(has),
-        _ => {}
+    let Some(keyed) = b.keyed else {
+        b.keyed = Some(has);
+        return Ok(());
+    };
+    if keyed == has || !has_one_form(b.head.kind) {
+        return Ok(());
     }
+    if b.known {
+        c.fault(FaultCode::BadLiteral, elem_place(elem))?;
+    }
+    b.known = false;
     Ok(())
 }
 
