@@ -7,7 +7,6 @@ ghost use Rattle.js_tree.specs.View.{script_view};
 use gj_base::{Fault, NoMemory, Refusal};
 use go_core::program::Program;
 use go_init::init_order;
-use go_is_sound::is_sound;
 use go_marks::marks;
 use js_emit::{EmitRefusal, emit};
 use js_printable::is_printable;
@@ -20,7 +19,7 @@ pub enum Untranslated {
     /// The initialisation of its package variables has a cycle.
     Fault(Fault),
     NoMemory,
-    /// The program is not sound, or its script is not printable.
+    /// The translation met what no sound program has, or its script is not printable.
     Internal,
 }
 
@@ -58,9 +57,6 @@ impl From<EmitRefusal> for Untranslated {
 pub fn translated(alloc: Global, program: &Program) -> Result<Script, Untranslated>
     ensures { IfOk result (λ script. IsPrintable (script_view script)) }
 {
-    if !is_sound(alloc, program)? {
-        return Err(Untranslated::Internal);
-    }
     let order = init_order(alloc, program)?;
     let marks = marks(alloc, program)?;
     let script = emit(alloc, program, &order, &marks)?;
