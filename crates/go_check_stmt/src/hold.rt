@@ -94,7 +94,8 @@ pub fn declare_with(
 pub fn store_vars(c: &mut Checker, vars: Span, values: Span) -> Result<StmtId, NoMemory> {
     let mut targets: Vec<u32> = Vec::new(c.alloc);
     for number in 0..vars.len {
-        let target = var_target(c, VarRef(c.nodes.item(vars, number)))?;
+        let var = VarRef(c.nodes.item(vars, number));
+        let target = var_target(c, var)?;
         targets.push(c.nodes.target(target)?)?;
     }
     let targets = c.nodes.list(targets.as_slice())?;
