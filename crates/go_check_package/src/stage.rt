@@ -46,15 +46,16 @@ pub fn check(
     }
     for number in i.order.iter() {
         let start = starts.get(*number as usize).copied().unwrap_or(at);
-        let own = files_of(files, *number, start);
+        let end = end_of(files, *number, start);
+        let own = files.get(start..end).unwrap_or(&[]);
         package(c, packages, &i, *number, own)?;
     }
     c.tell_unused()?;
     Ok(i.edges)
 }
 
-// The files of a package, from its first one on.
-fn files_of<'a, 'b>(files: &'b [FileRow<'a>], number: u32, start: usize) -> &'b [FileRow<'a>] {
+// Where the files of a package end that begin at a place.
+fn end_of(files: &[FileRow<'_>], number: u32, start: usize) -> usize {
     let mut end = start;
     for file in files.iter().skip(start) {
         if file.package != number {
@@ -62,7 +63,7 @@ fn files_of<'a, 'b>(files: &'b [FileRow<'a>], number: u32, start: usize) -> &'b 
         }
         end = end.saturating_add(1);
     }
-    files.get(start..end).unwrap_or(&[])
+    end
 }
 
 // One package, whose imports are done.
