@@ -5,7 +5,9 @@ use gj_base::{NoMemory, Text};
 use std::alloc::Global;
 
 const CASE: &[u8] = b"=== ";
+
 const FILE: &[u8] = b"--- ";
+
 const CUT_FILE: &[u8] = b"--> ";
 
 /// What a line of the text belongs to.

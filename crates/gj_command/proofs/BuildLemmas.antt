@@ -10,7 +10,6 @@ use Rattle.gj_command.proofs.PlaceLemmas.{short}
 pub can_be_told : (r : Refused) (folder : List ℕ) (old new : FilesState) → IsRefused r folder old new → CanBeTold r
 can_be_told (refused.Fault fault entries) folder old new why = short entries why.2.own
 can_be_told (refused.Beyond fault entries) folder old new why = tt
-can_be_told (refused.Unread fault entries) folder old new why = tt
 can_be_told refused.ReadFault folder old new why = tt
 can_be_told refused.NoMemory folder old new why = tt
 can_be_told refused.Internal folder old new why = tt

@@ -259,7 +259,6 @@ answers_of refused.Internal answer line folder path small old new told why = sub
 answers_of (refused.Fault fault entries) answer line folder path small old new (inl told) why = subst (λ (a : Outcome). BuildAnswers a line folder path small old new) (sym told.0) (inl (fault, entries, refl, told.1, why))
 answers_of (refused.Fault fault entries) answer line folder path small old new (inr told) why = subst (λ (a : Outcome). BuildAnswers a line folder path small old new) (sym told.0) (why.0, told.1)
 answers_of (refused.Beyond fault entries) answer line folder path small old new told why = beyond_of answer line folder path small old new told why.0 why.1
-answers_of (refused.Unread fault entries) answer line folder path small old new told why = beyond_of answer line folder path small old new told why.0 why.1
 
 -- a fault in a file is told by its line
 pub told_at : (es : List FileEntry) (fault : Fault) (entry : FileEntry) (text : List ℕ) (old new : SinkState) → entry ≡ get_or es fault.place.file entry → fault.place.file < length es → text ≡ fault_text fault

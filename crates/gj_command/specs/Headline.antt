@@ -128,4 +128,3 @@ IsToldOf refused.Internal answer line = (answer ≡ Internal) × (line ≡ inter
 IsToldOf (refused.Fault fault entries) answer line =
     ((answer ≡ outcome.Fault (told_fault fault)) × (line ≡ fault_line entries fault)) ⊎ ((answer ≡ NoMemory) × (line ≡ out_of_memory_line))
 IsToldOf (refused.Beyond fault entries) answer line = IsToldBeyond answer line
-IsToldOf (refused.Unread fault entries) answer line = IsToldBeyond answer line

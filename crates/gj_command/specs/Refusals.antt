@@ -8,7 +8,6 @@ use Rattle.gj_compile.specs.declared.refused.Refused.TheVariants as refused
 abbrev pub CanBeTold : Refused → Type 0
 CanBeTold (refused.Fault fault entries) = All (λ e. length e.bytes ≤ file_limit) entries
 CanBeTold (refused.Beyond fault entries) = Unit {0}
-CanBeTold (refused.Unread fault entries) = Unit {0}
 CanBeTold refused.ReadFault = Unit {0}
 CanBeTold refused.NoMemory = Unit {0}
 CanBeTold refused.Internal = Unit {0}

@@ -65,8 +65,7 @@ pub fn refuse<E: Sink>(alloc: Global, refused: Refused, err: &mut E) -> Outcome
         Refused::NoMemory => out_of_memory(err),
         Refused::Internal => internal(err),
         Refused::Fault(fault, sources) => refuse_fault(alloc, fault, &sources, err),
-        Refused::Beyond(fault, sources) => refuse_beyond(fault, &sources, err),
-        Refused::Unread(fault, sources) => refuse_unread(alloc, fault, &sources, err),
+        Refused::Beyond(fault, sources) => refuse_beyond(alloc, fault, &sources, err),
     }
 }
 
@@ -92,10 +91,13 @@ fn refuse_fault<E: Sink>(alloc: Global, fault: Fault, sources: &Sources, err: &m
     })
 }
 
-/// Tells of a fault with its whole text.
-fn refuse_beyond<E: Sink>(fault: Fault, sources: &Sources, err: &mut E) -> Outcome
+/// Tells of a fault in these files, of which nothing is proved.
+fn refuse_beyond<E: Sink>(alloc: Global, fault: Fault, sources: &Sources, err: &mut E) -> Outcome
     ensures { (line : List ℕ) × IsToldBeyond result line × Told line (E.state err.old) (E.state err.new) }
 {
+    let Ok(text) = fault_text(alloc, &fault) else {
+        return out_of_memory(err);
+    };
     let place = fault.place;
     let Some(entry) = sources.as_slice().get(place.file as usize) else {
         return internal(err);
@@ -103,23 +105,10 @@ fn refuse_beyond<E: Sink>(fault: Fault, sources: &Sources, err: &mut E) -> Outco
     if entry.bytes.as_bytes().len() > FILE_LIMIT {
         return internal(err);
     }
-    tell_whole(entry, place.offset, fault.text.as_bytes(), err);
-    Outcome::Fault(fault)
-}
-
-/// Tells of a fault with the name that is told of it.
-fn refuse_unread<E: Sink>(alloc: Global, fault: Fault, sources: &Sources, err: &mut E) -> Outcome
-    ensures { (line : List ℕ) × IsToldBeyond result line × Told line (E.state err.old) (E.state err.new) }
-{
-    match fault_text(alloc, &fault) {
-        Ok(text) => {
-            let whole = Fault {
-                place: fault.place,
-                code: fault.code,
-                text,
-            };
-            refuse_beyond(whole, sources, err)
-        }
-        Err(_) => out_of_memory(err),
-    }
+    tell_whole(entry, place.offset, text.as_bytes(), err);
+    Outcome::Fault(Fault {
+        place,
+        code: fault.code,
+        text,
+    })
 }

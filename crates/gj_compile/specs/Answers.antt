@@ -101,7 +101,6 @@ FailsLater old new = ReadFailed old new ⊎ (new ≡ old)
 abbrev pub IsRefused : Refused → List ℕ → FilesState → FilesState → Type 0
 IsRefused (refused.Fault fault entries) folder old new = FindsFault fault entries folder old new
 IsRefused (refused.Beyond fault entries) folder old new = (new ≡ old) × IsBeyond folder old
-IsRefused (refused.Unread fault entries) folder old new = (new ≡ old) × IsBeyond folder old
 IsRefused refused.ReadFault folder old new = FailsToRead folder old new ⊎ (FailsLater old new × IsBeyond folder old)
 IsRefused refused.NoMemory folder old new = new ≡ old
 IsRefused refused.Internal folder old new = (new ≡ old) × IsBeyond folder old

@@ -66,7 +66,6 @@ FrontsPackages (Ok c) packages =
     ((c.is_plain ≡ true) × (only_prints (program_view c.program) ≡ true) × IsHeld packages (program_view c.program)) ⊎ ((c.is_plain ≡ false) × AreBeyond packages)
 FrontsPackages (Err (refused.Fault fault entries)) packages = (entries ≡ packages.files) × IsLeastOf (decls_in packages) fault × (fault.code ≢ 0)
 FrontsPackages (Err (refused.Beyond fault entries)) packages = AreBeyond packages
-FrontsPackages (Err (refused.Unread fault entries)) packages = AreBeyond packages
 FrontsPackages (Err refused.ReadFault) packages = ⊥
 FrontsPackages (Err refused.NoMemory) packages = Unit {0}
 FrontsPackages (Err refused.Internal) packages = ⊥
@@ -76,7 +75,6 @@ abbrev pub GoesOn : Result Checked Refused → Type 0
 GoesOn (Ok c) = c.is_plain ≡ false
 GoesOn (Err (refused.Fault fault entries)) = ⊥
 GoesOn (Err (refused.Beyond fault entries)) = Unit {0}
-GoesOn (Err (refused.Unread fault entries)) = Unit {0}
 GoesOn (Err refused.ReadFault) = ⊥
 GoesOn (Err refused.NoMemory) = Unit {0}
 GoesOn (Err refused.Internal) = ⊥
@@ -86,7 +84,6 @@ abbrev pub Imports : Result Checked Refused → FilesState → FilesState → Ty
 Imports (Ok c) old new = (c.is_plain ≡ false) × (new ≡ old)
 Imports (Err (refused.Fault fault entries)) old new = ⊥
 Imports (Err (refused.Beyond fault entries)) old new = new ≡ old
-Imports (Err (refused.Unread fault entries)) old new = new ≡ old
 Imports (Err refused.ReadFault) old new = FailsLater old new
 Imports (Err refused.NoMemory) old new = new ≡ old
 Imports (Err refused.Internal) old new = ⊥
@@ -103,7 +100,6 @@ abbrev pub Scripts : Result Script Refused → Checked → Type 0
 Scripts (Ok script) c = IsPrintable (script_view script) × (c.is_plain ≡ true → Faithful (script_view script) (program_view c.program) [])
 Scripts (Err (refused.Fault fault entries)) c = ⊥
 Scripts (Err (refused.Beyond fault entries)) c = c.is_plain ≡ false
-Scripts (Err (refused.Unread fault entries)) c = c.is_plain ≡ false
 Scripts (Err refused.ReadFault) c = ⊥
 Scripts (Err refused.NoMemory) c = Unit {0}
 Scripts (Err refused.Internal) c = c.is_plain ≡ false
@@ -113,7 +109,6 @@ abbrev pub ScriptsPlain : Result Script Refused → Program → Type 0
 ScriptsPlain (Ok script) program = IsPrintable (script_view script) × Faithful (script_view script) (program_view program) []
 ScriptsPlain (Err (refused.Fault fault entries)) program = ⊥
 ScriptsPlain (Err (refused.Beyond fault entries)) program = ⊥
-ScriptsPlain (Err (refused.Unread fault entries)) program = ⊥
 ScriptsPlain (Err refused.ReadFault) program = ⊥
 ScriptsPlain (Err refused.NoMemory) program = Unit {0}
 ScriptsPlain (Err refused.Internal) program = ⊥
@@ -122,7 +117,6 @@ abbrev pub ScriptsAny : Result Script Refused → Type 0
 ScriptsAny (Ok script) = IsPrintable (script_view script)
 ScriptsAny (Err (refused.Fault fault entries)) = ⊥
 ScriptsAny (Err (refused.Beyond fault entries)) = Unit {0}
-ScriptsAny (Err (refused.Unread fault entries)) = Unit {0}
 ScriptsAny (Err refused.ReadFault) = ⊥
 ScriptsAny (Err refused.NoMemory) = Unit {0}
 ScriptsAny (Err refused.Internal) = Unit {0}

@@ -11,11 +11,8 @@ use go_load::Sources;
 pub enum Refused {
     /// The source files break a rule here. These are all files that were read, by number.
     Fault(Fault, Sources),
-    /// The same, told of a program that has forms for which nothing is proved yet. The fault has its whole
-    /// text.
+    /// The same, told of a program that has forms for which nothing is proved yet.
     Beyond(Fault, Sources),
-    /// The same, where the fault has only the name that is told of it.
-    Unread(Fault, Sources),
     /// A read failed, or the root has no `.go` file.
     ReadFault,
     NoMemory,

@@ -11,6 +11,7 @@ ghost use Rattle.gj_compile.specs.Fronts.{Scripts, ScriptsPlain, ScriptsAny};
 use crate::front::Checked;
 use crate::refused::Refused;
 use crate::translation::{Untranslated, translated};
+use gj_base::{Fault, Place, Text};
 use go_core::program::Program;
 use go_core::tree::{FuncSet, Order};
 use go_load::Sources;
@@ -18,6 +19,9 @@ use go_stmt::gone_program;
 use js_prints::emit;
 use js_tree::Script;
 use std::alloc::Global;
+
+/// The code of a cycle of package variables.
+const CYCLE: u16 = 48;
 
 /// The script of a program, which is printable; `Beyond` where its package variables need themselves.
 pub fn script_of(alloc: Global, checked: Checked) -> Result<Script, Refused>
@@ -51,8 +55,17 @@ fn whole_script(alloc: Global, program: Program, files: Sources) -> Result<Scrip
     gone_program(program);
     match made {
         Ok(script) => Ok(script),
-        Err(Untranslated::Fault(fault)) => Err(Refused::Beyond(fault, files)),
+        Err(Untranslated::Cycle(place)) => Err(Refused::Beyond(cycle(alloc, place), files)),
         Err(Untranslated::NoMemory) => Err(Refused::NoMemory),
         Err(Untranslated::Internal) => Err(Refused::Internal),
+    }
+}
+
+/// The fault of variables that need themselves before they are initialised.
+fn cycle(alloc: Global, place: Place) -> Fault {
+    Fault {
+        place,
+        code: CYCLE,
+        text: Text::new(alloc),
     }
 }

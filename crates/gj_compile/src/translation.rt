@@ -4,7 +4,7 @@ ghost use Rattle.std.specs.Prelude.{IfOk};
 ghost use Rattle.js_tree.specs.Printable.{IsPrintable};
 ghost use Rattle.js_tree.specs.View.{script_view};
 
-use gj_base::{Fault, NoMemory, Refusal};
+use gj_base::{NoMemory, Place, Refusal};
 use go_core::program::Program;
 use go_init::init_order;
 use go_marks::marks;
@@ -16,8 +16,8 @@ use std::alloc::Global;
 /// Why a program has no script.
 #[derive(Debug, Drop)]
 pub enum Untranslated {
-    /// The initialisation of its package variables has a cycle.
-    Fault(Fault),
+    /// The initialisation of its package variables has a cycle, of which the variable here is one.
+    Cycle(Place),
     NoMemory,
     /// The translation met what no sound program has, or its script is not printable.
     Internal,
@@ -36,7 +36,7 @@ impl From<Refusal> for Untranslated {
 
     fn from(refusal: Refusal) -> Untranslated {
         match refusal {
-            Refusal::Fault(fault) => Untranslated::Fault(fault),
+            Refusal::Fault(fault) => Untranslated::Cycle(fault.place),
             Refusal::NoMemory => Untranslated::NoMemory,
         }
     }

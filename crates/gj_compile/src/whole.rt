@@ -21,7 +21,7 @@ pub fn check_imports<F: Files>(
 {
     match load_program(alloc, files, root, src) {
         Ok(packages) => check_whole(alloc, packages),
-        Err(LoadRefusal::Fault(fault, sources)) => Err(Refused::Unread(fault, sources)),
+        Err(LoadRefusal::Fault(fault, sources)) => Err(Refused::Beyond(fault, sources)),
         Err(LoadRefusal::ReadFault) => Err(Refused::ReadFault),
         Err(LoadRefusal::NoMemory) => Err(Refused::NoMemory),
     }
