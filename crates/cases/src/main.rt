@@ -3,17 +3,17 @@
 
 mod call;
 mod case;
-mod check;
 mod differs;
 mod folder;
 mod rows;
 mod script;
 mod tree;
+mod verdict;
 
 use crate::case::Case;
-use crate::check::check;
 use crate::differs::Failed;
 use crate::folder::cases_here;
+use crate::verdict::check;
 use std::alloc::Global;
 use std::io;
 use std::process::ExitCode;

@@ -98,7 +98,7 @@ fn check_packages(alloc: Global, packages: Packages) -> Result<Checked, Refused>
     ensures { FrontsPackages result packages }
 {
     match check(alloc, &packages) {
-        Ok(program) => checked(alloc, packages, program),
+        Ok(program) => accepted(alloc, packages, program),
         Err(refusal) => unchecked(alloc, packages, refusal),
     }
 }
@@ -120,7 +120,7 @@ fn unchecked(alloc: Global, packages: Packages, refusal: Refusal) -> Result<Chec
 }
 
 /// What comes of a package of which nothing is told.
-fn checked(alloc: Global, packages: Packages, program: Program) -> Result<Checked, Refused>
+fn accepted(alloc: Global, packages: Packages, program: Program) -> Result<Checked, Refused>
     requires right { told (decls_in packages) ≡ [] }
     requires is { IsProgramOf (decls_in packages) program }
     ensures { FrontsPackages result packages }

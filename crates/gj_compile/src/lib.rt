@@ -4,16 +4,16 @@
 //! script is proved where the root is plain; `specs/Answers.antt` says where it isn't.
 #![tactic(auto)]
 
-pub mod blocking;
-pub mod compile;
+pub mod compiling;
 pub mod front;
 pub mod refused;
 pub mod script;
 mod translation;
+pub mod waiting;
 mod whole;
 
-pub use blocking::blocking_names;
-pub use compile::compile;
+pub use compiling::compile;
 pub use front::{Checked, check_folder};
 pub use refused::Refused;
 pub use script::script_of;
+pub use waiting::blocking_names;

@@ -1,5 +1,5 @@
 use Rattle.gj_compile.proofs.FrontLemmas.{compiles, prints_of}
-use Rattle.gj_compile.proofs.compile.compile.Goals as goal
+use Rattle.gj_compile.proofs.compiling.compile.Goals as goal
 
 pub script_of-requires : goal.script_of-requires
 script_of-requires g c = prints_of c.in-Ok.checked c.args.root.now (g.F.Files.state c.args.files.now) c.in-Ok.ensures.1
