@@ -2,6 +2,7 @@
 
 use gj_base::{NoMemory, Place};
 use go_check_expr::signature;
+use go_check_state::below::ids_below;
 use go_check_state::state::MethodEntry;
 use go_check_state::{BLANK, Checker, FaultCode, NameId, Shape};
 use go_syntax::tree::{Expr, ExprForm, Name, Params, Prefix, Sig};
@@ -157,6 +158,12 @@ pub fn add_method(
     let Some(row) = c.sig_copy(sig)? else {
         return Ok(());
     };
+    if !ids_below(&c.types, row.params.as_slice()) {
+        return Ok(());
+    }
+    if !ids_below(&c.types, row.results.as_slice()) {
+        return Ok(());
+    }
     if id.0 < c.types.name_len() {
         c.types.add_method(id, text, pointer, row)?;
     }
