@@ -60,20 +60,23 @@ impl Ranks {
 
 impl<'p> Waiting<'p> {
     fn begin(&mut self, alloc: Global) -> Result<(), NoMemory> {
-        for i in 0..self.rows.len() {
-            let path = self.rows[i].path.clone()?;
-            let _ = self.places.insert(path, i)?;
+        let rows = self.rows;
+        let mut i: usize = 0;
+        for row in rows {
+            let _ = self.places.insert(row.path.clone()?, i)?;
             self.waits.push(0)?;
             self.users.push(Vec::new(alloc))?;
+            i = i.saturating_add(1);
         }
-        for i in 0..self.rows.len() {
-            let rows = self.rows;
-            for path in rows[i].imports.items.as_slice() {
+        let mut i: usize = 0;
+        for row in rows {
+            for path in row.imports.items.as_slice() {
                 self.wait_for(i, path)?;
             }
             if self.waits_of(i) == 0 {
-                let _ = self.ready.insert((self.rows[i].path.clone()?, i))?;
+                let _ = self.ready.insert((row.path.clone()?, i))?;
             }
+            i = i.saturating_add(1);
         }
         Ok(())
     }
@@ -97,26 +100,37 @@ impl<'p> Waiting<'p> {
         }
     }
 
-    fn done(&mut self, n: usize) -> Result<(), NoMemory> {
-        if n >= self.users.len() {
-            return Ok(());
+    // The package with this number of those that wait for one.
+    fn user(&self, n: usize, k: usize) -> Option<usize> {
+        match self.users.get(n) {
+            Some(users) => users.get(k).copied(),
+            None => None,
         }
-        for k in 0..self.users[n].len() {
-            let Some(i) = self.users[n].get(k).copied() else {
+    }
+
+    fn done(&mut self, n: usize) -> Result<(), NoMemory> {
+        let mut k: usize = 0;
+        for _ in 0..u64::MAX {
+            let Some(i) = self.user(n, k) else {
                 return Ok(());
             };
             self.waits_less(i)?;
+            k = k.saturating_add(1);
         }
         Ok(())
     }
 
     fn waits_less(&mut self, i: usize) -> Result<(), NoMemory> {
-        if i >= self.waits.len() || i >= self.rows.len() {
+        if i >= self.waits.len() {
             return Ok(());
         }
-        self.waits[i] = self.waits[i].saturating_sub(1);
-        if self.waits[i] == 0 {
-            let _ = self.ready.insert((self.rows[i].path.clone()?, i))?;
+        let left = self.waits[i].saturating_sub(1);
+        self.waits[i] = left;
+        let rows = self.rows;
+        if left == 0
+            && let Some(row) = rows.get(i)
+        {
+            let _ = self.ready.insert((row.path.clone()?, i))?;
         }
         Ok(())
     }

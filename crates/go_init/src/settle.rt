@@ -42,6 +42,14 @@ fn at(xs: &[usize], i: usize) -> usize {
     }
 }
 
+// The element with a number of one of the lists.
+fn nth(lists: &[Vec<usize>], i: usize, k: usize) -> Option<usize> {
+    match lists.get(i) {
+        Some(list) => list.get(k).copied(),
+        None => None,
+    }
+}
+
 impl<'p> Settling<'p> {
     /// Nothing is set. Components are numbered below `count`.
     pub fn new(
@@ -168,11 +176,13 @@ impl<'p> Settling<'p> {
             return Ok(());
         }
         self.order.push(holder)?;
-        for k in 0..self.group[holder].len() {
-            let Some(j) = self.group[holder].get(k).copied() else {
+        let mut k: usize = 0;
+        for _ in 0..u64::MAX {
+            let Some(j) = nth(self.group.as_slice(), holder, k) else {
                 return Ok(());
             };
             self.set(j)?;
+            k = k.saturating_add(1);
         }
         Ok(())
     }
@@ -193,14 +203,13 @@ impl<'p> Settling<'p> {
 
     // What waits for a component waits for one edge less.
     fn done(&mut self, c: usize) -> Result<(), NoMemory> {
-        if c >= self.users.len() {
-            return Ok(());
-        }
-        for k in 0..self.users[c].len() {
-            let Some(user) = self.users[c].get(k).copied() else {
+        let mut k: usize = 0;
+        for _ in 0..u64::MAX {
+            let Some(user) = nth(self.users.as_slice(), c, k) else {
                 return Ok(());
             };
             self.waits_less(user)?;
+            k = k.saturating_add(1);
         }
         Ok(())
     }
