@@ -1,13 +1,13 @@
 //! The least fault of the load stage.
 
-use crate::program::{FileForm, ImportRow, Program, Target};
+use crate::program::{FileForm, ImportRow, PackageRow, Program, Target};
 use gj_base::NoMemory;
 use go_graph::lasting_in;
 use go_syntax::tree::{Decl, DeclForm, File};
 
 /// A fault: by its package's place among packages, its file, its offset and its code; with the number of
 /// the path that it tells.
-#[derive(Clone, Copy, Debug)]
+#[derive(Clone, Copy)]
 pub struct Flaw {
     pub rank: usize,
     pub file: usize,
@@ -17,7 +17,7 @@ pub struct Flaw {
 }
 
 /// The least of the faults that were told so far.
-#[derive(Clone, Copy, Debug)]
+#[derive(Clone, Copy)]
 pub struct Least {
     pub flaw: Option<Flaw>,
 }
@@ -68,8 +68,8 @@ pub fn rank_of(p: &Program, package: usize) -> usize {
 pub fn least_flaw(p: &Program) -> Result<Option<Flaw>, NoMemory> {
     let mut least = Least { flaw: None };
     least.tell_where(!has_main(p), rank_of(p, 0), 0, 0, 43);
-    for file in 0..p.files.len() {
-        tell_file(p, &mut least, file);
+    for package in 0..p.packages.len() {
+        tell_package(p, &mut least, package);
     }
     for import in &p.imports {
         tell_missing(p, &mut least, *import);
@@ -113,21 +113,35 @@ fn declares_main(decls: &[Decl]) -> bool {
     false
 }
 
-fn tell_file(p: &Program, least: &mut Least, file: usize) {
+fn tell_package(p: &Program, least: &mut Least, package: usize) {
+    let Some(row) = p.packages.get(package).copied() else {
+        return;
+    };
+    let first = first_name(p, row);
+    for file in row.first..row.first.saturating_add(row.count) {
+        tell_file(p, least, row.rank, first, file);
+    }
+}
+
+fn tell_file(p: &Program, least: &mut Least, rank: usize, first: &[u8], file: usize) {
     let Some(row) = p.files.get(file).copied() else {
         return;
     };
-    let rank = rank_of(p, row.package);
     match row.form {
         FileForm::Long => least.tell_where(true, rank, file, 0, 45),
         FileForm::Unlexed(_) => {}
         FileForm::Unparsed(_) => {}
         FileForm::Parsed {
+            tree,
             start,
             constraint,
-            ..
         } => {
-            tell_clause(p, least, rank, file, start);
+            if let Some(tree) = p.trees.get(tree) {
+                let name = tree.package.text.as_bytes();
+                let is_right = is_right_name(row.package, name);
+                least.tell_where(!is_right, rank, file, start, 44);
+                least.tell_where(name != first, rank, file, start, 42);
+            }
             if let Some(offset) = constraint {
                 least.tell_where(true, rank, file, offset, 47);
             }
@@ -135,30 +149,17 @@ fn tell_file(p: &Program, least: &mut Least, file: usize) {
     }
 }
 
-// The package clause of a file with a tree.
-fn tell_clause(p: &Program, least: &mut Least, rank: usize, file: usize, start: u32) {
-    let Some(row) = p.files.get(file).copied() else {
-        return;
-    };
-    let Some(tree) = tree_in(p, row.form) else {
-        return;
-    };
-    let name = tree.package.text.as_bytes();
-    let is_right = if row.package == 0 {
-        name == b"main".as_slice()
-    } else {
-        name != b"main".as_slice() && name != b"_".as_slice()
-    };
-    least.tell_where(!is_right, rank, file, start, 44);
-    let first = first_name(p, row.package);
-    least.tell_where(name != first, rank, file, start, 42);
+// Whether a package may have this name: the root is `main`, and no other one.
+fn is_right_name(package: usize, name: &[u8]) -> bool {
+    let is_main = name == b"main".as_slice();
+    if package == 0 {
+        return is_main;
+    }
+    !is_main && name != b"_".as_slice()
 }
 
-/// The name in the package clause of the first file of a package that has a tree.
-pub fn first_name(p: &Program, package: usize) -> &[u8] {
-    let Some(row) = p.packages.get(package).copied() else {
-        return b"";
-    };
+// The name in the package clause of the first file of a package that has a tree.
+fn first_name(p: &Program, row: PackageRow) -> &[u8] {
     for number in row.first..row.first.saturating_add(row.count) {
         if let Some(file) = p.files.get(number) {
             if let Some(tree) = tree_in(p, file.form) {

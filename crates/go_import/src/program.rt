@@ -7,7 +7,7 @@ use std::alloc::Global;
 use std::collections::BTreeMap;
 
 /// What a file is by itself.
-#[derive(Clone, Copy, Debug)]
+#[derive(Clone, Copy)]
 pub enum FileForm {
     /// Past the limit.
     Long,
@@ -24,7 +24,7 @@ pub enum FileForm {
 }
 
 /// A file: the number of its package, and what it is.
-#[derive(Clone, Copy, Debug)]
+#[derive(Clone, Copy)]
 pub struct FileRow {
     pub package: usize,
     pub form: FileForm,
@@ -32,7 +32,7 @@ pub struct FileRow {
 
 /// A package: the number of its path, that of its first file, how many files it has, and where it stands
 /// among all packages in the byte order of their paths.
-#[derive(Clone, Copy, Debug)]
+#[derive(Clone, Copy)]
 pub struct PackageRow {
     pub path: usize,
     pub first: usize,
@@ -42,7 +42,7 @@ pub struct PackageRow {
 }
 
 /// What an import path leads to.
-#[derive(Clone, Copy, Debug)]
+#[derive(Clone, Copy)]
 pub enum Target {
     Package(usize),
     /// The compiler's own functions.
@@ -51,14 +51,14 @@ pub enum Target {
 }
 
 /// A path that was met, and what it leads to.
-#[derive(Debug, Drop)]
+#[derive(Drop)]
 pub struct PathRow {
     pub path: Text,
     pub target: Target,
 }
 
 /// An import: the numbers of its package, its file and its path, and its offset in the file.
-#[derive(Clone, Copy, Debug)]
+#[derive(Clone, Copy)]
 pub struct ImportRow {
     pub package: usize,
     pub file: usize,
