@@ -4,13 +4,15 @@ use crate::gates::GATES;
 use crate::halves::HALVES;
 use crate::maps::MAPS;
 use crate::memory::MEMORY;
-use crate::talk::{TALK, TURN_ALONE};
+use crate::talk::{TALK, TURN_ALONE, TURN_CALM};
 use crate::text::TEXT;
-use crate::unwinding::{REPORT_ALONE, REPORT_PLAIN, TOLD_NARROW, UNWINDING};
+use crate::unwinding::{
+    REPORT_ALONE, REPORT_PLAIN, TOLD_NARROW, UNWIND_ALONE, UNWIND_CALM, UNWINDING,
+};
 use crate::word::{first_word, panic_number};
-use js_pool::{Name, Node, Pool, Stmt, Unmade};
+use js_pool::Unmade;
 use js_read::{ReadRefusal, read};
-use js_tree::{JsItem, preamble};
+use js_tree::{JsItem, Script, preamble};
 use std::alloc::Global;
 
 /// A function or a variable of the library, with its text.
@@ -86,16 +88,46 @@ impl Needs {
 
     // ---- what is needed
 
+    // The number of the part with a name; most names in a script are shorter than all of theirs.
+    fn find(&self, name: &[u8]) -> Option<usize> {
+        if name.len() < 3 && name != b"$q".as_slice() {
+            return None;
+        }
+        for i in 0..self.parts.len() {
+            if self.part(i).name == name {
+                return Some(i);
+            }
+        }
+        None
+    }
+
+    // The part with a number.
+    fn part(&self, i: usize) -> Part {
+        match self.parts.get(i) {
+            Some(part) => *part,
+            None => Part {
+                name: b"",
+                text: b"",
+                needed: false,
+            },
+        }
+    }
+
     /// A name is mentioned: the part of this name is needed, where there is one.
     pub fn need(&mut self, name: &[u8]) {
         self.need_panic(panic_number(name));
-        for i in 0..self.parts.len() {
-            if self.parts[i].name == name && !self.parts[i].needed {
-                self.parts[i].needed = true;
-                if self.work.push(i).is_err() {
-                    self.failed = true;
-                }
-            }
+        if let Some(i) = self.find(name) {
+            self.need_part(i);
+        }
+    }
+
+    fn need_part(&mut self, i: usize) {
+        if i >= self.parts.len() || self.parts[i].needed {
+            return;
+        }
+        self.parts[i].needed = true;
+        if self.work.push(i).is_err() {
+            self.failed = true;
         }
     }
 
@@ -105,40 +137,27 @@ impl Needs {
         }
     }
 
-    fn need_name(&mut self, x: Name) {
-        match x {
-            Name::Word(word) => self.need(word),
-            Name::Numbered(word, n) => {
-                if word == b"$p".as_slice() {
-                    self.need_panic(n as usize);
-                }
-            }
-        }
-    }
-
-    /// All names that a script under construction mentions.
-    pub fn need_all_of(&mut self, pool: &Pool) {
-        for node in pool.nodes.as_slice() {
-            if let Node::Name(x) = *node {
-                self.need_name(x);
-            }
-        }
-        for s in pool.stmts.as_slice() {
-            if let Stmt::Assign(x, _) = *s {
-                self.need_name(x);
-            }
-        }
-        self.follow();
-    }
-
-    /// What needed parts mention is needed.
+    /// What needed parts mention is needed. The texts of a few parts depend on what else is needed.
     pub fn follow(&mut self) {
-        self.follow_work();
-        if self.waits() {
-            self.need(b"$end");
-            self.need(b"$q");
-            self.need(b"$rest");
+        for _ in 0..self.parts.len() {
             self.follow_work();
+            self.need_chosen(b"$turn");
+            self.need_chosen(b"$unwind");
+            self.need_chosen(b"$report");
+            self.need_chosen(b"$told");
+            if self.work.is_empty() {
+                return;
+            }
+        }
+    }
+
+    // What a needed part mentions in the text that it has by now.
+    fn need_chosen(&mut self, name: &[u8]) {
+        if let Some(i) = self.find(name)
+            && self.part(i).needed
+        {
+            let text = self.text_of(i);
+            self.need_words(text);
         }
     }
 
@@ -147,7 +166,8 @@ impl Needs {
             let Some(i) = self.work.pop() else {
                 return;
             };
-            self.need_words(self.text_of(i));
+            let text = self.text_of(i);
+            self.need_words(text);
         }
     }
 
@@ -165,12 +185,10 @@ impl Needs {
 
     /// Whether a part is needed.
     pub fn has(&self, name: &[u8]) -> bool {
-        for part in self.parts.as_slice() {
-            if part.name == name {
-                return part.needed;
-            }
+        match self.find(name) {
+            Some(i) => self.part(i).needed,
+            None => false,
         }
-        false
     }
 
     /// Whether the run-time panic with this number is mentioned.
@@ -185,16 +203,35 @@ impl Needs {
 
     // The text of a part in this script.
     fn text_of(&self, i: usize) -> &'static [u8] {
-        let Some(part) = self.parts.get(i) else {
-            return b"";
-        };
+        let part = self.part(i);
         match part.name {
-            b"$turn" if !self.waits() => TURN_ALONE.as_bytes(),
+            b"$turn" => self.turn_text(part.text),
+            b"$unwind" => self.unwind_text(part.text),
             b"$report" if !self.errors => REPORT_ALONE.as_bytes(),
             b"$report" if self.errors_are_plain => REPORT_PLAIN.as_bytes(),
             b"$told" if !self.wide => TOLD_NARROW.as_bytes(),
             _ => part.text,
         }
+    }
+
+    fn turn_text(&self, whole: &'static [u8]) -> &'static [u8] {
+        if self.waits() {
+            return whole;
+        }
+        if self.has(b"$panic") {
+            return TURN_ALONE.as_bytes();
+        }
+        TURN_CALM.as_bytes()
+    }
+
+    fn unwind_text(&self, whole: &'static [u8]) -> &'static [u8] {
+        if self.has(b"$defer") {
+            return whole;
+        }
+        if self.has(b"$panic") {
+            return UNWIND_ALONE.as_bytes();
+        }
+        UNWIND_CALM.as_bytes()
     }
 
     // ---- trees
@@ -212,7 +249,7 @@ impl Needs {
     fn script_text(&self) -> Result<Vec<u8>, Unmade> {
         let mut bytes = Vec::from_slice(self.alloc, preamble())?;
         for i in 0..self.parts.len() {
-            if self.parts[i].needed {
+            if self.part(i).needed {
                 bytes.extend_from_slice(self.text_of(i))?;
             }
         }
@@ -228,8 +265,9 @@ fn add_read(alloc: Global, bytes: &[u8], items: &mut Vec<JsItem>) -> Result<(), 
     }
     match read(alloc, bytes) {
         Ok(script) => {
-            for item in script.items {
-                items.push(item)?;
+            let Script { items: parts, .. } = script;
+            for part in parts {
+                items.push(part)?;
             }
             Ok(())
         }

@@ -253,3 +253,11 @@ function $turn(){
   }
  }
 }";
+
+/// `$turn` in a script that throws nothing, and whose frames never wait.
+pub const TURN_CALM: &'static str = "
+function $turn(){
+ for(;;){
+  $now[0]($now);
+ }
+}";

@@ -141,3 +141,27 @@ function $told($v){
  }
  return \"(value)\";
 }";
+
+/// `$unwind` in a script without deferred calls.
+pub const UNWIND_ALONE: &'static str = "
+function $unwind($f){
+ var $u=$f[2];
+ if($f[4]!==2){
+  return false;
+ }
+ if($u===$rest){
+  $now=[$report,1,null,null,0,$f[5],null];
+  return true;
+ }
+ $u[1]=0;
+ $u[4]=2;
+ $u[5]=$f[5];
+ $now=$u;
+ return true;
+}";
+
+/// `$unwind` in a script that throws nothing and has no deferred calls.
+pub const UNWIND_CALM: &'static str = "
+function $unwind($f){
+ return false;
+}";
