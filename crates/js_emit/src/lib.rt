@@ -5,6 +5,7 @@
 //! library, and of what is known of types.
 #![tactic(auto)]
 
+pub mod classes;
 pub mod program;
 pub mod reach;
 pub mod top;

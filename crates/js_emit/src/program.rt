@@ -1,5 +1,6 @@
 //! From a program to its script.
 
+use crate::classes::join_tagged;
 use crate::reach::Reach;
 use crate::top::{
     add_dynamic_types, add_globals, add_panics, fill_method, fill_predeclared, name_number,
@@ -47,7 +48,8 @@ pub fn emit(
     order: &InitSteps,
     marks: &FuncSet,
 ) -> Result<Script, EmitRefusal> {
-    let facts = Facts::new(alloc, program, marks)?;
+    let mut facts = Facts::new(alloc, program, marks)?;
+    join_tagged(alloc, &mut facts)?;
     let mut b = Body::new(Pool::new(alloc), facts);
     add_all(&mut b, order.items.as_slice());
     let mut reach = Reach::new(alloc, &b.pool, program)?;
