@@ -14,8 +14,8 @@ use Rattle.go_statements.specs.Labels.{labels_in_all, branches_in_all}
 use Rattle.go_statements.specs.Statements.{stmt, stmts, unlabeled}
 use Rattle.go_packages.specs.Known.{first_names}
 use Rattle.gj_plain.specs.Plain.{is_empty, printed_text, with_text, texts_of}
-use Rattle.js_emit.specs.Lines.{print_line, print_lines}
-use Rattle.js_emit.specs.Prints.{is_text, all_print}
+use Rattle.js_prints.specs.Lines.{print_line, print_lines}
+use Rattle.js_prints.specs.Prints.{is_text, all_print}
 use Rattle.go_lines.proofs.Forms.{line_expr, is_long, a_print, nothing, both}
 
 -- what is known in `main`, which stands there, when these were used; each name is typed

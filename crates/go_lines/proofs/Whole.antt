@@ -11,8 +11,8 @@ use Rattle.go_statements.specs.Labels.{labels_in_all, branches_in_all, label_fla
 use Rattle.go_statements.specs.Statements.{stmts, where_whole, flaw_places}
 use Rattle.go_packages.specs.Checked.{told, or_generated, program_of}
 use Rattle.gj_plain.specs.Plain.{Main, is_bare, texts_of, main_in}
-use Rattle.js_emit.specs.Lines.{print_lines}
-use Rattle.js_emit.specs.Prints.{all_print, only_prints}
+use Rattle.js_prints.specs.Lines.{print_lines}
+use Rattle.js_prints.specs.Prints.{all_print, only_prints}
 use Rattle.go_core.specs.CoreTree.{Stmts}
 use Rattle.go_lines.specs.Lines.{PrintsLines}
 use Rattle.go_lines.proofs.Forms.{a_main}

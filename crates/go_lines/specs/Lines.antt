@@ -3,8 +3,8 @@ use Rattle.std.specs.Prelude.{◌≡◌, ℕ, List, [], true, Some, slice_get}
 use Rattle.go_syntax.specs.Tree as t
 use Rattle.go_type.specs.Tree.{no_tys}
 use Rattle.go_core.specs.CoreTree.{CoreFunc, CoreProgram}
-use Rattle.js_emit.specs.Lines.{print_lines}
-use Rattle.js_emit.specs.Prints.{only_prints}
+use Rattle.js_prints.specs.Lines.{print_lines}
+use Rattle.js_prints.specs.Prints.{only_prints}
 use Rattle.go_packages.specs.Checked.{told, program_of}
 use Rattle.gj_plain.specs.Plain.{Main, main_in}
 

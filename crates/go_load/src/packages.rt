@@ -32,6 +32,25 @@ impl Paths {
         Ok(Paths { packages })
     }
 
+    /// Adds a package under its import path.
+    pub fn insert(&mut self, path: Text, package: Package) -> Result<(), NoMemory> {
+        self.packages.insert(path, package)?;
+        Ok(())
+    }
+
+    /// How many packages there are, the root among them.
+    pub fn len(&self) -> usize {
+        self.packages.len()
+    }
+
+    /// The import path of the package at an index, if there are so many.
+    pub fn path(&self, index: usize) -> Option<&Text> {
+        match self.packages.get_index(index) {
+            Some((path, _)) => Some(path),
+            None => None,
+        }
+    }
+
     /// The package at an index, if there are so many.
     pub fn get(&self, index: usize) -> Option<&Package>
         ensures { option_map (λ p. package_view p.now) result ≡ option_map (λ e. e.1) (slice_get (paths_view self.now) index) }

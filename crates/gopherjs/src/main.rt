@@ -1,30 +1,8 @@
-//! The command line. `src/top.rt` has the call that does all the work, with its contract.
+//! The program: it hands the words and the real outside to the top call of `gj_command`.
 #![tactic(auto)]
 
-mod build;
-#[cfg(test)]
-mod check_tests;
-#[cfg(test)]
-mod control_tests;
-#[cfg(test)]
-mod declaration_tests;
-#[cfg(test)]
-mod form_tests;
-#[cfg(test)]
-mod least_tests;
-#[cfg(test)]
-mod many_tests;
-mod outcome;
-mod report;
-#[cfg(test)]
-mod tests;
-mod top;
-#[cfg(test)]
-mod variable_tests;
-mod words;
-
-use crate::outcome::{Outcome, status_of};
-use crate::top::gopherjs;
+use gj_command::outcome::{Outcome, status_of};
+use gj_command::top::gopherjs;
 use gj_outside::disk::DiskFiles;
 use gj_outside::stream::StdSink;
 use std::env::Env;

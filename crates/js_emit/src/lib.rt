@@ -1,16 +1,13 @@
-//! The script of a program.
+//! The script of a whole program.
 //!
-//! `specs/Faithful.antt` says when a script is right: it is the statement to read first.
-//! `specs/Prints.antt` says which programs are translated so far, `specs/Emitted.antt` is the script
-//! that is made, and `proofs/Simulation.antt` shows that it is faithful.
+//! Functions that may wait become machines (js_flat), all others plain functions (js_plain). What stands
+//! at the script's top is what `$start` leads to by names: of the program's functions, of the run-time
+//! library, and of what is known of types.
 #![tactic(auto)]
 
-pub mod kind;
-pub mod laws;
-pub mod lines;
-mod output;
-pub mod script;
+pub mod classes;
+pub mod program;
+pub mod reach;
+pub mod top;
 
-pub use kind::only_prints;
-pub use lines::script_of_lines;
-pub use script::emit;
+pub use program::{EmitRefusal, emit};

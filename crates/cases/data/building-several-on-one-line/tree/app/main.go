@@ -1,0 +1,1 @@
+package main; func main() { println("a"); println("b") }

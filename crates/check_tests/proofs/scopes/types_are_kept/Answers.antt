@@ -1,6 +1,0 @@
-use Rattle.check_tests.proofs.scopes.types_are_kept.Goals as goal
-
-pub invariant_of-env : goal.invariant_of-env
-invariant_of-env g c =
-    let e = c.types.new.env in
-    record { begins = e.begins; universe_within = e.universe_within; packages_within = e.packages_within; blocks_within = e.blocks_within }

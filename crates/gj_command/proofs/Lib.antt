@@ -1,0 +1,6 @@
+pub mod ToldLemmas
+pub mod NameLemmas
+pub mod FileLemmas
+pub mod PlaceLemmas
+pub mod TopLemmas
+pub mod BuildLemmas

@@ -1,0 +1,42 @@
+//! The loader of imports and the checker of the whole profile.
+
+ghost use Rattle.gj_compile.specs.Fronts.{GoesOn, Imports};
+
+use crate::front::Checked;
+use crate::refused::{Refused, beyond};
+use gj_base::Files;
+use go_check::check;
+use go_import::load_program;
+use go_load::{LoadRefusal, Packages};
+use std::alloc::Global;
+
+/// Reads a folder with its imports, and checks it.
+pub fn check_imports<F: Files>(
+    alloc: Global,
+    root: &str,
+    src: &str,
+    files: &mut F,
+) -> Result<Checked, Refused>
+    ensures { Imports result (F.state files.old) (F.state files.new) }
+{
+    match load_program(alloc, files, root, src) {
+        Ok(packages) => check_whole(alloc, packages),
+        Err(LoadRefusal::Fault(fault, sources)) => Err(Refused::Beyond(fault, sources)),
+        Err(LoadRefusal::ReadFault) => Err(Refused::ReadFault),
+        Err(LoadRefusal::NoMemory) => Err(Refused::NoMemory),
+    }
+}
+
+/// Checks packages of any form.
+pub fn check_whole(alloc: Global, packages: Packages) -> Result<Checked, Refused>
+    ensures { GoesOn result }
+{
+    match check(alloc, &packages) {
+        Ok(program) => Ok(Checked {
+            program,
+            files: packages.into_files(),
+            is_plain: false,
+        }),
+        Err(refusal) => Err(beyond(refusal, packages.into_files())),
+    }
+}

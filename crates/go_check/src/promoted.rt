@@ -1,0 +1,212 @@
+//! Wrappers of promoted methods, and the rows of all methods. Go, "Struct types", "Method sets".
+
+use crate::hidden::NOWHERE;
+use gj_base::{NoMemory, Text};
+use go_check_call::calls::call;
+use go_check_core::MethodSpec;
+use go_check_primary::selectors::selector;
+use go_check_state::node::{PlaceNode, Span, VarRef};
+use go_check_state::state::MethodEntry;
+use go_check_state::{Checker, EMPTY, FuncRow, NO_OBJECT, NONE, NameId, Operand, Shape};
+use go_check_stmt::hold::set_body;
+use go_check_stmt::sides::{one_each, return_sides};
+use go_check_stmt::start::performed;
+use go_type::Methods;
+use go_type::types::{GoType, NamedId, TypeId};
+
+/// The rows of all methods: those that are declared, and those that are promoted.
+pub fn method_rows(c: &mut Checker) -> Result<Vec<MethodSpec>, NoMemory> {
+    let mut rows: Vec<MethodSpec> = Vec::new(c.alloc);
+    for number in 0..c.methods.len() {
+        if let Some(entry) = c.methods.get(number).copied() {
+            declared_rows(c, &mut rows, entry)?;
+        }
+    }
+    for number in 0..c.types.len() {
+        promoted_rows(c, &mut rows, TypeId(number))?;
+    }
+    Ok(rows)
+}
+
+// A method has a row with its receiver's type, and one on the value one with the pointer's too.
+fn declared_rows(
+    c: &mut Checker,
+    rows: &mut Vec<MethodSpec>,
+    entry: MethodEntry,
+) -> Result<(), NoMemory> {
+    if entry.named >= c.types.name_len() {
+        return Ok(());
+    }
+    let t = c.types.add(GoType::Named(NamedId(entry.named)))?;
+    let pointer = c.pointer_to(t)?;
+    let package = home_of(c, NamedId(entry.named), entry.name)?;
+    let row = MethodSpec {
+        ty: pointer,
+        name: entry.name,
+        package,
+        func: entry.func,
+    };
+    rows.push(row)?;
+    if !entry.pointer {
+        rows.push(MethodSpec { ty: t, ..row })?;
+    }
+    Ok(())
+}
+
+// The package by which a name of a named type's package is told apart.
+fn home_of(c: &mut Checker, id: NamedId, name: NameId) -> Result<NameId, NoMemory> {
+    if c.is_exported(name) || id.0 >= c.types.name_len() {
+        return Ok(EMPTY);
+    }
+    let home = c.types.named(id).package.clone()?;
+    c.names.intern(home.as_bytes())
+}
+
+// Whether a type may have promoted methods.
+fn may_promote(c: &Checker, t: TypeId) -> bool {
+    match c.shape(t) {
+        Shape::Struct(_) => true,
+        _ => false,
+    }
+}
+
+// Whether a method set has a method.
+fn has_method(set: &Methods, name: &Text, package: &Text) -> bool {
+    set.as_slice()
+        .iter()
+        .any(|spec| spec.name == *name && spec.package == *package)
+}
+
+fn is_declared(
+    c: &mut Checker,
+    t: TypeId,
+    name: NameId,
+    package: NameId,
+) -> Result<bool, NoMemory> {
+    let Shape::Named(id) = c.level(t) else {
+        return Ok(false);
+    };
+    if c.declared_method(t, name).is_none() {
+        return Ok(false);
+    }
+    Ok(home_of(c, id, name)? == package)
+}
+
+fn promoted_rows(c: &mut Checker, rows: &mut Vec<MethodSpec>, t: TypeId) -> Result<(), NoMemory> {
+    if !may_promote(c, t) {
+        return Ok(());
+    }
+    let pointer = c.pointer_to(t)?;
+    if !c.has(pointer) || !c.has(t) {
+        return Ok(());
+    }
+    let all = c.types.method_set(c.alloc, pointer)?;
+    let own = c.types.method_set(c.alloc, t)?;
+    for spec in all.as_slice() {
+        let name = c.names.intern(spec.name.as_bytes())?;
+        let package = c.names.intern(spec.package.as_bytes())?;
+        if !is_declared(c, t, name, package)? {
+            let sig = c.sig_type(&spec.sig)?;
+            let func = wrapper(c, pointer, name, package, sig)?;
+            let row = MethodSpec {
+                ty: pointer,
+                name,
+                package,
+                func,
+            };
+            rows.push(row)?;
+            if has_method(&own, &spec.name, &spec.package) {
+                rows.push(MethodSpec { ty: t, ..row })?;
+            }
+        }
+    }
+    Ok(())
+}
+
+// Enters the package that a name belongs to.
+fn enter(c: &mut Checker, package: NameId) {
+    for number in 0..c.paths.len() {
+        if c.paths.get(number).copied() == Some(package) && number <= u32::MAX as usize {
+            c.package = number as u32;
+        }
+    }
+}
+
+// The variables of a wrapper: receiver, parameters and results.
+fn header(c: &mut Checker, pointer: TypeId, sig: TypeId) -> Result<Vec<u32>, NoMemory> {
+    let mut vars: Vec<u32> = Vec::new(c.alloc);
+    vars.push(c.fresh(EMPTY, NOWHERE, pointer)?.0)?;
+    if let Shape::Func(params, results, _) = c.shape(sig) {
+        for number in 0..params {
+            let t = c.param(sig, number);
+            vars.push(c.fresh(EMPTY, NOWHERE, t)?.0)?;
+        }
+        for number in 0..results {
+            let t = c.result_type(sig, number);
+            vars.push(c.fresh(EMPTY, NOWHERE, t)?.0)?;
+        }
+    }
+    Ok(vars)
+}
+
+fn variable(c: &mut Checker, vars: &Vec<u32>, number: usize) -> Result<Operand, NoMemory> {
+    let Some(var) = vars.get(number).copied() else {
+        return c.unknown(NOWHERE);
+    };
+    let ty = match c.vars.get(var as usize) {
+        Some(row) => row.ty,
+        None => NONE,
+    };
+    c.variable(NOWHERE, ty, PlaceNode::Local(VarRef(var)))
+}
+
+// A function on the pointer that calls the promoted method.
+fn wrapper(
+    c: &mut Checker,
+    pointer: TypeId,
+    name: NameId,
+    package: NameId,
+    sig: TypeId,
+) -> Result<u32, NoMemory> {
+    let Shape::Func(params, results, variadic) = c.shape(sig) else {
+        return Ok(0);
+    };
+    if package != EMPTY {
+        enter(c, package);
+    }
+    let func = c.add_func(FuncRow {
+        name: EMPTY,
+        package: c.package,
+        sig,
+        place: NOWHERE,
+        parent: None,
+        receiver: Some(pointer),
+        is_literal: false,
+        scope: NO_OBJECT,
+        params: Span { start: 0, len: 0 },
+        body: None,
+    })?;
+    c.current = Some(func.0);
+    let vars = header(c, pointer, sig)?;
+    let receiver = variable(c, &vars, 0)?;
+    let method = selector(c, NOWHERE, receiver, NOWHERE, name)?;
+    let mut args: Vec<Operand> = Vec::new(c.alloc);
+    for number in 0..params {
+        args.push(variable(c, &vars, number.saturating_add(1))?)?;
+    }
+    let x = call(c, NOWHERE, method, args, variadic)?;
+    let body = if results == 0 {
+        performed(c, x)?
+    } else {
+        let mut one: Vec<Operand> = Vec::new(c.alloc);
+        one.push(x)?;
+        match one_each(c, one, results)? {
+            Some(sides) => return_sides(c, &sides, &sides.values)?,
+            None => performed(c, x)?,
+        }
+    };
+    c.current = None;
+    let params = c.nodes.list(vars.as_slice())?;
+    set_body(c, func.0, params, body);
+    Ok(func.0)
+}

@@ -1,0 +1,292 @@
+//! Expressions of the syntax tree. Go, "Expressions".
+
+use crate::literal::{begin, elided_type, end, literal};
+use crate::types::{DIRECT, fields, members, signature};
+use gj_base::{NoMemory, Op, Place};
+use go_check_call::builtins::builtin;
+use go_check_call::calls::call;
+use go_check_call::conversion_row::conversion_call;
+use go_check_operand::binary::binary;
+use go_check_operand::unary::unary;
+use go_check_primary::basic_literal::{int, rune, string};
+use go_check_primary::index_row::{assertion, index_row, receive, slice_row};
+use go_check_primary::names::{member, name};
+use go_check_primary::selectors::{address_of, address_of_literal, indirection, selector};
+use go_check_state::names::EMPTY;
+use go_check_state::node::{Node, Span};
+use go_check_state::state::{FuncRow, joined};
+use go_check_state::{Checker, FaultCode, Mode, Operand};
+use go_check_type::interface_type::{interface_rows, interface_type};
+use go_check_type::struct_type::{struct_rows, struct_type};
+use go_check_type::type_row::{array_length, array_type, direction, map_type, wanted_type};
+use go_syntax::tree::{Expr, ExprForm, Name, Prefix};
+use go_type::types::TypeId;
+
+/// What stands around an expression: whether a named type there has to stand for something, and the type
+/// of a literal that leaves its own out.
+#[derive(Clone, Copy, Debug)]
+pub struct Around {
+    pub direct: bool,
+    pub elided: TypeId,
+}
+
+/// Nothing that matters.
+pub const NOTHING: Around = Around {
+    direct: false,
+    elided: TypeId(18446744073709551615),
+};
+
+/// What an expression is, a type included. Go, "Expressions".
+pub fn expr(c: &mut Checker, e: &Expr) -> Result<Operand, NoMemory> {
+    operand(c, e, NOTHING)
+}
+
+/// The same of expressions, in order.
+#[cycle(operand)]
+pub fn operands(c: &mut Checker, list: &Vec<Expr>) -> Result<Vec<Operand>, NoMemory> {
+    let mut out: Vec<Operand> = Vec::new(c.alloc);
+    for e in list {
+        out.push(operand(c, e, NOTHING)?)?;
+    }
+    Ok(out)
+}
+
+/// What an expression is in what stands around it: its parts are typed, and its row joins them.
+#[cycle(operand)]
+pub fn operand(c: &mut Checker, e: &Expr, around: Around) -> Result<Operand, NoMemory> {
+    let place = e.place;
+    let direct = around.direct;
+    let x = match &*e.form {
+        ExprForm::Name(text) => name(c, place, text)?,
+        ExprForm::Int(text) => int(c, place, text)?,
+        ExprForm::Rune(text) => rune(c, place, text)?,
+        ExprForm::Str(text) => string(c, place, text)?,
+        ExprForm::Paren(x) => operand(c, x, around)?,
+        ExprForm::Unary(prefix, x) => {
+            let literal = is_literal(x);
+            let x = operand(c, x, NOTHING)?;
+            unary_row(c, place, *prefix, x, literal)?
+        }
+        ExprForm::Binary(x, op, y) => {
+            let x = operand(c, x, NOTHING)?;
+            let y = operand(c, y, NOTHING)?;
+            binary(c, place, *op, x, y)?
+        }
+        ExprForm::Select(x, name) => {
+            let x = operand(c, x, NOTHING)?;
+            select_row(c, place, x, name)?
+        }
+        ExprForm::Index(x, i) => {
+            let x = operand(c, x, NOTHING)?;
+            let i = operand(c, i, NOTHING)?;
+            index_row(c, place, x, i)?
+        }
+        ExprForm::Slice(x, low, high, max) => {
+            let x = operand(c, x, NOTHING)?;
+            let low = match low {
+                Some(low) => Some(operand(c, low, NOTHING)?),
+                None => None,
+            };
+            let high = match high {
+                Some(high) => Some(operand(c, high, NOTHING)?),
+                None => None,
+            };
+            let max = match max {
+                Some(max) => Some(operand(c, max, NOTHING)?),
+                None => None,
+            };
+            slice_row(c, place, x, low, high, max)?
+        }
+        ExprForm::Assert(x, t) => {
+            let x = operand(c, x, NOTHING)?;
+            let t = operand(c, t, NOTHING)?;
+            let t = wanted_type(c, t, false)?;
+            assertion(c, place, x, t)?
+        }
+        ExprForm::Call(f, args, dots) => {
+            let f = operand(c, f, NOTHING)?;
+            let before = c.has_call;
+            c.has_call = false;
+            let args = operands(c, args)?;
+            call_row(c, place, f, args, *dots, before)?
+        }
+        ExprForm::Literal(Some(t), elems) => {
+            let (t, counts) = match &*t.form {
+                ExprForm::ArrayT(None, of) => {
+                    let of = operand(c, of, DIRECT)?;
+                    (wanted_type(c, of, true)?, true)
+                }
+                _ => {
+                    let t = operand(c, t, DIRECT)?;
+                    (wanted_type(c, t, true)?, false)
+                }
+            };
+            let mut b = begin(c, place, t, counts);
+            literal(c, &mut b, elems)?;
+            end(c, &b)?
+        }
+        ExprForm::Literal(None, elems) => {
+            let (t, points) = elided_type(c, around.elided);
+            let mut b = begin(c, place, t, false);
+            literal(c, &mut b, elems)?;
+            let x = end(c, &b)?;
+            if points {
+                address_of_literal(c, place, x)?
+            } else {
+                x
+            }
+        }
+        ExprForm::Func(sig, _) => {
+            let t = signature(c, sig)?;
+            function_literal(c, place, t)?
+        }
+        ExprForm::ArrayT(Some(n), of) => {
+            let n = operand(c, n, NOTHING)?;
+            let n = array_length(c, n)?;
+            let of = operand(c, of, around)?;
+            let of = wanted_type(c, of, direct)?;
+            let t = array_type(c, place, n, of)?;
+            type_operand(c, place, t)?
+        }
+        ExprForm::ArrayT(None, of) => {
+            c.fault(FaultCode::BadArrayLength, place)?;
+            operand(c, of, around)?;
+            c.unknown(place)?
+        }
+        ExprForm::SliceT(of) => {
+            let of = operand(c, of, NOTHING)?;
+            let of = wanted_type(c, of, false)?;
+            let t = c.slice_of(of)?;
+            type_operand(c, place, t)?
+        }
+        ExprForm::StructT(list) => {
+            let mut rows = struct_rows(c);
+            fields(c, list, around, &mut rows)?;
+            let t = struct_type(c, place, rows)?;
+            type_operand(c, place, t)?
+        }
+        ExprForm::FuncT(sig) => {
+            let t = signature(c, sig)?;
+            type_operand(c, place, t)?
+        }
+        ExprForm::InterfaceT(list) => {
+            let mut rows = interface_rows(c);
+            members(c, list, &mut rows)?;
+            let t = interface_type(c, place, rows)?;
+            type_operand(c, place, t)?
+        }
+        ExprForm::MapT(key, of) => {
+            let key = operand(c, key, DIRECT)?;
+            let key = wanted_type(c, key, true)?;
+            let of = operand(c, of, NOTHING)?;
+            let of = wanted_type(c, of, false)?;
+            let t = map_type(c, place, key, of)?;
+            type_operand(c, place, t)?
+        }
+        ExprForm::ChanT(dir, of) => {
+            let of = operand(c, of, NOTHING)?;
+            let of = wanted_type(c, of, false)?;
+            let t = c.chan_of(direction(*dir), of)?;
+            type_operand(c, place, t)?
+        }
+    };
+    finished(c, place, x)
+}
+
+// An operand whose type stands for nothing yet isn't typed.
+fn finished(c: &mut Checker, place: Place, x: Operand) -> Result<Operand, NoMemory> {
+    if !x.is_type() && c.has(x.ty) && !c.need_parts(x.ty)? {
+        return c.unknown(place);
+    }
+    Ok(Operand { place, ..x })
+}
+
+fn type_operand(c: &mut Checker, place: Place, t: TypeId) -> Result<Operand, NoMemory> {
+    if c.has(t) {
+        c.plain(Mode::TypeName, place, t)
+    } else {
+        c.unknown(place)
+    }
+}
+
+// Whether an expression is a literal, parentheses aside.
+fn is_literal(e: &Expr) -> bool {
+    match &*e.form {
+        ExprForm::Literal(_, _) => true,
+        ExprForm::Paren(x) => is_literal(x),
+        _ => false,
+    }
+}
+
+// Go, "Address operators", "Receive operator".
+fn unary_row(
+    c: &mut Checker,
+    place: Place,
+    prefix: Prefix,
+    x: Operand,
+    literal: bool,
+) -> Result<Operand, NoMemory> {
+    match prefix {
+        Prefix::Plus => unary(c, place, Op::Plus, x),
+        Prefix::Neg => unary(c, place, Op::Neg, x),
+        Prefix::Not => unary(c, place, Op::Not, x),
+        Prefix::Compl => unary(c, place, Op::Compl, x),
+        Prefix::Star if x.is_type() => {
+            let t = c.pointer_to(x.ty)?;
+            type_operand(c, place, t)
+        }
+        Prefix::Star => indirection(c, place, x),
+        Prefix::Address if literal => address_of_literal(c, place, x),
+        Prefix::Address => address_of(c, place, x),
+        Prefix::Receive => receive(c, place, x),
+    }
+}
+
+// Go, "Selectors", "Qualified identifiers".
+fn select_row(c: &mut Checker, place: Place, x: Operand, name: &Name) -> Result<Operand, NoMemory> {
+    if let Mode::Package(package) = x.mode {
+        return member(c, place, package, name.place, &name.text);
+    }
+    let id = c.names.intern(name.text.as_bytes())?;
+    selector(c, place, x, name.place, id)
+}
+
+// Go, "Calls", "Conversions", "Built-in functions".
+fn call_row(
+    c: &mut Checker,
+    place: Place,
+    f: Operand,
+    operands: Vec<Operand>,
+    dots: bool,
+    before: bool,
+) -> Result<Operand, NoMemory> {
+    match f.mode {
+        Mode::TypeName => {
+            c.has_call |= before;
+            conversion_call(c, place, f.ty, &operands, dots)
+        }
+        Mode::Builtin(b) => builtin(c, place, b, operands, dots, before),
+        _ => call(c, place, f, operands, dots),
+    }
+}
+
+// Its body is typed by what goes over the statements, in the scope that then stands.
+fn function_literal(c: &mut Checker, place: Place, t: TypeId) -> Result<Operand, NoMemory> {
+    let func = c.add_func(FuncRow {
+        name: EMPTY,
+        package: c.package,
+        sig: t,
+        place,
+        parent: c.current,
+        receiver: None,
+        is_literal: true,
+        scope: c.head,
+        params: Span { start: 0, len: 0 },
+        body: None,
+    })?;
+    c.literals.insert(joined(place.file, place.offset), func.0)?;
+    if !c.has(t) {
+        return c.unknown(place);
+    }
+    c.value(place, t, Node::Closure { ty: t, func })
+}

@@ -1,0 +1,372 @@
+//! Assignments and short variable declarations. Go, "Assignments", "IncDec statements", "Short variable
+//! declarations".
+
+use crate::hold::{declare, hold, hold_place, nothing, sequence, store_one};
+use crate::sides::{Left, Sides, assigned, converted, right_sides, store_sides};
+use gj_base::{NoMemory, Op, Place};
+use go_check_expr::expr::expr;
+use go_check_operand::assignment::default_value;
+use go_check_operand::binary::binary;
+use go_check_state::node::{Node, PlaceNode, StmtId, Target, VarRef};
+use go_check_state::{BLANK, Checker, Entity, FaultCode, Mode, NONE, NameId, Operand};
+use go_const::Const;
+use go_syntax::tree::{Expr, ExprForm};
+use go_type::predeclared::untyped_id;
+use go_type::types::{Basis, TypeId};
+
+/// `_`: any value goes there.
+pub const NOWHERE: Left = Left {
+    target: Target::Blank,
+    ty: NONE,
+    blank: true,
+};
+
+/// What no value can go to.
+pub const NOT_THERE: Left = Left {
+    target: Target::Blank,
+    ty: NONE,
+    blank: false,
+};
+
+/// Whether an expression is `_`.
+pub fn is_blank(e: &Expr) -> bool {
+    match &*e.form {
+        ExprForm::Name(text) => text.as_bytes() == b"_".as_slice(),
+        ExprForm::Paren(x) => is_blank(x),
+        _ => false,
+    }
+}
+
+/// A left side. An occurrence that is a whole left side is no use.
+pub fn left_side(c: &mut Checker, e: &Expr) -> Result<Left, NoMemory> {
+    if is_blank(e) {
+        return Ok(NOWHERE);
+    }
+    let object = whole_name(c, e)?;
+    let used = match object {
+        Some(id) => match c.object(id) {
+            Some(object) => object.used,
+            None => false,
+        },
+        None => false,
+    };
+    let x = expr(c, e)?;
+    if let Some(id) = object {
+        if (id as usize) < c.objects.len() {
+            c.objects[id as usize].used = used;
+        }
+    }
+    target(c, x)
+}
+
+// The local variable that an expression is a whole name of.
+fn whole_name(c: &mut Checker, e: &Expr) -> Result<Option<u32>, NoMemory> {
+    let ExprForm::Name(text) = &*e.form else {
+        return Ok(None);
+    };
+    let id = c.names.intern(text.as_bytes())?;
+    let Some(found) = c.lookup(id) else {
+        return Ok(None);
+    };
+    Ok(match c.object(found) {
+        Some(object) => match object.entity {
+            Entity::Local(_, _) => Some(found),
+            _ => None,
+        },
+        None => None,
+    })
+}
+
+// What an operand is as a left side: F85 where it can't be assigned.
+fn target(c: &mut Checker, x: Operand) -> Result<Left, NoMemory> {
+    match x.mode {
+        Mode::Unknown => Ok(NOT_THERE),
+        Mode::Variable(place) => Ok(Left {
+            target: Target::Place { ty: x.ty, place },
+            ty: x.ty,
+            blank: false,
+        }),
+        Mode::MapEntry(operand, key) => {
+            let map_type = match c.nodes.get(x.node) {
+                Node::MapGet { map_type, .. } => map_type,
+                _ => NONE,
+            };
+            Ok(Left {
+                target: Target::Entry {
+                    map_type,
+                    operand,
+                    key,
+                },
+                ty: x.ty,
+                blank: false,
+            })
+        }
+        _ => {
+            c.fault(FaultCode::CannotAssign, x.place)?;
+            Ok(NOT_THERE)
+        }
+    }
+}
+
+/// `x, y = z, w`: F84 where the counts differ.
+pub fn assign(
+    c: &mut Checker,
+    place: Place,
+    left: &Vec<Expr>,
+    right: &Vec<Expr>,
+) -> Result<StmtId, NoMemory> {
+    let mut lefts: Vec<Left> = Vec::new(c.alloc);
+    for e in left {
+        lefts.push(left_side(c, e)?)?;
+    }
+    let Some(sides) = right_sides(c, right, left.len())? else {
+        c.fault(FaultCode::CountMismatch, place)?;
+        return nothing(c);
+    };
+    let values = converted(c, &sides, &lefts)?;
+    store_sides(c, Vec::new(c.alloc), &sides, &lefts, &values)
+}
+
+// F84 where a statement that takes one expression has several.
+fn only<'a>(
+    c: &mut Checker,
+    place: Place,
+    list: &'a Vec<Expr>,
+) -> Result<Option<&'a Expr>, NoMemory> {
+    if list.len() != 1 {
+        c.fault(FaultCode::CountMismatch, place)?;
+    }
+    Ok(list.first())
+}
+
+/// `x op= y`. Go, "Assignments".
+pub fn assign_op(
+    c: &mut Checker,
+    place: Place,
+    left: &Vec<Expr>,
+    op: Op,
+    right: &Vec<Expr>,
+) -> Result<StmtId, NoMemory> {
+    let (Some(e), Some(r)) = (only(c, place, left)?, only(c, place, right)?) else {
+        return nothing(c);
+    };
+    let x = expr(c, e)?;
+    let y = expr(c, r)?;
+    update(c, x, op, y)
+}
+
+// Whether nothing runs when an operand is evaluated.
+fn is_quiet(y: Operand) -> bool {
+    y.constant().is_some()
+}
+
+// A left side whose operands are evaluated once, as an operand that reads it.
+fn held(
+    c: &mut Checker,
+    parts: &mut Vec<u32>,
+    x: Operand,
+    quiet: bool,
+) -> Result<Operand, NoMemory> {
+    match x.mode {
+        Mode::Variable(place) => {
+            let place = hold_place(c, parts, place, quiet)?;
+            let node = Node::Read { ty: x.ty, place };
+            c.operand(Mode::Variable(place), x.place, x.ty, node)
+        }
+        Mode::MapEntry(operand, key) => {
+            let operand = hold(c, parts, operand, quiet)?;
+            let key = hold(c, parts, key, quiet)?;
+            let map_type = match c.nodes.get(x.node) {
+                Node::MapGet { map_type, .. } => map_type,
+                _ => NONE,
+            };
+            let node = Node::MapGet {
+                map_type,
+                with_ok: false,
+                operand,
+                key,
+            };
+            c.operand(Mode::MapEntry(operand, key), x.place, x.ty, node)
+        }
+        _ => Ok(x),
+    }
+}
+
+// The value of the operator goes back to the left side.
+fn update(c: &mut Checker, x: Operand, op: Op, y: Operand) -> Result<StmtId, NoMemory> {
+    let mut parts: Vec<u32> = Vec::new(c.alloc);
+    let x = held(c, &mut parts, x, is_quiet(y))?;
+    let z = binary(c, x.place, op, x, y)?;
+    if z.is_unknown() {
+        return nothing(c);
+    }
+    let left = target(c, x)?;
+    if !c.has(left.ty) {
+        return nothing(c);
+    }
+    let z = assigned(c, z, left)?;
+    parts.push(store_one(c, left.target, z.node)?.0)?;
+    sequence(c, &parts)
+}
+
+/// `x++` or `x--`. Go, "IncDec statements".
+pub fn inc_dec(
+    c: &mut Checker,
+    place: Place,
+    list: &Vec<Expr>,
+    up: bool,
+) -> Result<StmtId, NoMemory> {
+    let Some(e) = only(c, place, list)? else {
+        return nothing(c);
+    };
+    let x = expr(c, e)?;
+    let one = c.add_const(Const::Int(1))?;
+    let y = c.constant_operand(x.place, untyped_id(Basis::Int), one)?;
+    update(c, x, if up { Op::Add } else { Op::Sub }, y)
+}
+
+/// A name on the left of `:=`, with the object of the innermost block that has it.
+#[derive(Clone, Copy, Debug)]
+struct LeftName {
+    name: NameId,
+    place: Place,
+    old: Option<u32>,
+}
+
+// F83 at a left side that is no name, F82 at a name that was there.
+fn left_names(c: &mut Checker, left: &Vec<Expr>) -> Result<Option<Vec<LeftName>>, NoMemory> {
+    let mut out: Vec<LeftName> = Vec::new(c.alloc);
+    let mut good = true;
+    for e in left {
+        match &*e.form {
+            ExprForm::Name(text) => {
+                let name = c.names.intern(text.as_bytes())?;
+                if name != BLANK && out.iter().any(|l| l.name == name) {
+                    c.fault_of(FaultCode::Redeclared, e.place, name)?;
+                    good = false;
+                }
+                let old = c.innermost(name);
+                out.push(LeftName {
+                    name,
+                    place: e.place,
+                    old,
+                })?;
+            }
+            _ => {
+                expr(c, e)?;
+                c.fault(FaultCode::BadDefine, e.place)?;
+                good = false;
+            }
+        }
+    }
+    if good { Ok(Some(out)) } else { Ok(None) }
+}
+
+/// `x, y := z, w`: F83 without a new name.
+pub fn define(
+    c: &mut Checker,
+    place: Place,
+    left: &Vec<Expr>,
+    right: &Vec<Expr>,
+) -> Result<StmtId, NoMemory> {
+    let names = left_names(c, left)?;
+    let sides = right_sides(c, right, left.len())?;
+    let Some(names) = names else {
+        return nothing(c);
+    };
+    if !names.iter().any(|l| l.old.is_none() && l.name != BLANK) {
+        c.fault(FaultCode::BadDefine, place)?;
+    }
+    let sides = match sides {
+        Some(sides) => sides,
+        None => {
+            c.fault(FaultCode::CountMismatch, place)?;
+            Sides {
+                values: Vec::new(c.alloc),
+                results: None,
+            }
+        }
+    };
+    let mut parts: Vec<u32> = Vec::new(c.alloc);
+    let mut lefts: Vec<Left> = Vec::new(c.alloc);
+    let mut values: Vec<Operand> = Vec::new(c.alloc);
+    for number in 0..names.len() {
+        if let Some(l) = names.get(number).copied() {
+            let x = match sides.values.get(number).copied() {
+                Some(x) => x,
+                None => c.unknown(l.place)?,
+            };
+            define_one(c, l, x, &mut parts, &mut lefts, &mut values)?;
+        }
+    }
+    store_sides(c, parts, &sides, &lefts, &values)
+}
+
+// A name of the left with its value.
+fn define_one(
+    c: &mut Checker,
+    l: LeftName,
+    x: Operand,
+    parts: &mut Vec<u32>,
+    lefts: &mut Vec<Left>,
+    values: &mut Vec<Operand>,
+) -> Result<(), NoMemory> {
+    let left = match l.old {
+        Some(id) => old_variable(c, l, id)?,
+        None => NOWHERE,
+    };
+    let x = if left.blank {
+        default_value(c, x)?
+    } else {
+        assigned(c, x, left)?
+    };
+    values.push(x)?;
+    if l.old.is_some() || l.name == BLANK {
+        lefts.push(left)?;
+        return Ok(());
+    }
+    let var = new_variable(c, l.name, l.place, x.ty)?;
+    parts.push(declare(c, var)?.0)?;
+    lefts.push(variable_side(c, var, x.ty)?)?;
+    Ok(())
+}
+
+/// A local variable as a left side.
+pub fn variable_side(c: &mut Checker, var: VarRef, ty: TypeId) -> Result<Left, NoMemory> {
+    let place = c.nodes.place(PlaceNode::Local(var))?;
+    Ok(Left {
+        target: Target::Place { ty, place },
+        ty,
+        blank: false,
+    })
+}
+
+/// A new variable of the innermost block, which must be used.
+pub fn new_variable(
+    c: &mut Checker,
+    name: NameId,
+    place: Place,
+    t: TypeId,
+) -> Result<VarRef, NoMemory> {
+    let var = c.fresh(name, place, t)?;
+    c.declare(name, place, Entity::Local(var.0, t), true)?;
+    Ok(var)
+}
+
+// A name that is assigned: F85 where it is no variable.
+fn old_variable(c: &mut Checker, l: LeftName, id: u32) -> Result<Left, NoMemory> {
+    let Some(object) = c.object(id) else {
+        return Ok(NOT_THERE);
+    };
+    match object.entity {
+        Entity::Local(var, t) if c.has(t) => {
+            c.capture(var)?;
+            variable_side(c, VarRef(var), t)
+        }
+        Entity::Local(_, _) => Ok(NOT_THERE),
+        _ => {
+            c.fault(FaultCode::CannotAssign, l.place)?;
+            Ok(NOT_THERE)
+        }
+    }
+}

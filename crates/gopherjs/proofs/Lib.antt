@@ -1,6 +1,0 @@
-pub mod ToldLemmas
-pub mod NameLemmas
-pub mod FileLemmas
-pub mod PlaceLemmas
-pub mod BuildLemmas
-pub mod TopLemmas

@@ -1,8 +1,0 @@
-use Rattle.std.proofs.Common.{ℕ, subst}
-use Rattle.gopherjs.specs.FaultText.{line_at}
-use Rattle.gopherjs.specs.Told.{Told}
-use Rattle.gopherjs.proofs.report.tell_in.Goals as goal
-
-pub returns : goal.returns
-returns g c =
-    subst (λ (place : ℕ × ℕ). Told (line_at c.args.name.now place c.args.text.now) (g.E.Sink.state c.args.err.now) (g.E.Sink.state c.tell_place.new.err)) c.place_in-line.ensures c.tell_place.ensures

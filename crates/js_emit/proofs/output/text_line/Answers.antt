@@ -1,3 +1,0 @@
-use Rattle.std.proofs.Common.{◌++◌, ◌∷◌, [], ◌∙◌, ap, refl, List, ℕ}
-use Rattle.js_emit.proofs.Printing.{byte_after}
-use Rattle.js_emit.proofs.output.text_line.Goals as goal

@@ -1,0 +1,292 @@
+//! What a script needs: the items that `$start` leads to by names, and the parts of the run-time library
+//! that these mention.
+
+use crate::top::{name_number, predeclared};
+use gj_base::NoMemory;
+use go_core::program::{MethodRow, Program};
+use go_type::predeclared::STR;
+use go_type::types::TypeId;
+use js_body::Body;
+use js_facts::Held;
+use js_pool::{Item, Name, Node, Pool};
+use js_prelude::Needs;
+use std::alloc::Global;
+
+/// The letters after `$` in names with numbers: the items of each are found by their numbers.
+const LETTERS: &[u8] = b"fmarnozdygp";
+
+/// The items of a script under construction, and which of them are reached.
+#[derive(Drop)]
+pub struct Reach {
+    /// By letter and number: the number of the item from 1 on, or 0.
+    by_number: Vec<Vec<u32>>,
+    reached: Vec<bool>,
+    work: Vec<u32>,
+    /// By type and by row: the rows of a type as a list, by their numbers from 1 on.
+    first_row: Vec<u32>,
+    next_row: Vec<u32>,
+    pub needs: Needs,
+}
+
+// The place of a letter, behind all where it has none.
+fn letter(word: &[u8]) -> usize {
+    let [_, c] = word else {
+        return LETTERS.len();
+    };
+    for i in 0..LETTERS.len() {
+        if LETTERS[i] == *c {
+            return i;
+        }
+    }
+    LETTERS.len()
+}
+
+fn item_name(item: Item) -> Name {
+    match item {
+        Item::Function(x, _, _) => x,
+        Item::Global(x, _) => x,
+    }
+}
+
+fn put(list: &mut Vec<u32>, at: usize, n: u32) -> Result<(), NoMemory> {
+    for _ in list.len()..at.saturating_add(1) {
+        list.push(0)?;
+    }
+    if at < list.len() {
+        list[at] = n;
+    }
+    Ok(())
+}
+
+fn get(list: &[u32], at: usize) -> u32 {
+    match list.get(at) {
+        Some(n) => *n,
+        None => 0,
+    }
+}
+
+impl Reach {
+    /// Nothing is reached.
+    pub fn new(alloc: Global, pool: &Pool, program: &Program) -> Result<Reach, NoMemory> {
+        let mut all = Reach {
+            by_number: Vec::new(alloc),
+            reached: Vec::new(alloc),
+            work: Vec::new(alloc),
+            first_row: Vec::new(alloc),
+            next_row: Vec::new(alloc),
+            needs: Needs::new(alloc),
+        };
+        all.needs.errors = false;
+        all.needs.wide = false;
+        for _ in 0..LETTERS.len() {
+            all.by_number.push(Vec::new(alloc))?;
+        }
+        all.add_items(pool)?;
+        all.add_rows(program)?;
+        Ok(all)
+    }
+
+    fn add_items(&mut self, pool: &Pool) -> Result<(), NoMemory> {
+        let mut n: u32 = 0;
+        for item in pool.items.as_slice() {
+            self.reached.push(false)?;
+            n = n.saturating_add(1);
+            if let Name::Numbered(word, k) = item_name(*item) {
+                let i = letter(word);
+                if i < self.by_number.len() {
+                    put(&mut self.by_number[i], k as usize, n)?;
+                }
+            }
+        }
+        Ok(())
+    }
+
+    fn add_rows(&mut self, program: &Program) -> Result<(), NoMemory> {
+        let mut n: u32 = 0;
+        for row in program.methods.items.as_slice() {
+            n = n.saturating_add(1);
+            let t = row.ty.0;
+            if t < program.types.len() {
+                let before = get(self.first_row.as_slice(), t as usize);
+                self.next_row.push(before)?;
+                put(&mut self.first_row, t as usize, n)?;
+            } else {
+                self.next_row.push(0)?;
+            }
+        }
+        Ok(())
+    }
+
+    // ---- what is reached
+
+    /// The item of a name with a number is needed, where there is one.
+    pub fn need(&mut self, word: &[u8], n: u32) -> Result<(), NoMemory> {
+        let i = letter(word);
+        if i < self.by_number.len() {
+            let item = get(self.by_number[i].as_slice(), n as usize);
+            if item > 0 {
+                return self.need_item(item - 1);
+            }
+        }
+        Ok(())
+    }
+
+    fn need_item(&mut self, n: u32) -> Result<(), NoMemory> {
+        let at = n as usize;
+        if at < self.reached.len() && !self.reached[at] {
+            self.reached[at] = true;
+            self.work.push(n)?;
+        }
+        Ok(())
+    }
+
+    /// The items of a word's name are needed, and the part of the library of this name.
+    pub fn need_word(&mut self, pool: &Pool, word: &'static [u8]) -> Result<(), NoMemory> {
+        self.needs.need(word);
+        if word == b"$init".as_slice() || word == b"$first".as_slice() {
+            return self.need_top(pool, word);
+        }
+        Ok(())
+    }
+
+    fn need_top(&mut self, pool: &Pool, word: &'static [u8]) -> Result<(), NoMemory> {
+        let mut n: u32 = 0;
+        for item in pool.items.as_slice() {
+            if let Name::Word(x) = item_name(*item)
+                && x == word
+            {
+                self.need_item(n)?;
+            }
+            n = n.saturating_add(1);
+        }
+        Ok(())
+    }
+
+    /// Whether an item is reached.
+    pub fn has_item(&self, n: usize) -> bool {
+        match self.reached.get(n) {
+            Some(b) => *b,
+            None => false,
+        }
+    }
+
+    /// Whether the item of a name with a number is reached.
+    pub fn has(&self, word: &[u8], n: u32) -> bool {
+        let i = letter(word);
+        if i >= self.by_number.len() {
+            return false;
+        }
+        let item = get(self.by_number[i].as_slice(), n as usize);
+        item > 0 && self.has_item((item - 1) as usize)
+    }
+
+    /// Goes on until nothing more is reached.
+    pub fn follow(&mut self, b: &Body<'_>) -> Result<(), NoMemory> {
+        for _ in 0..u64::MAX {
+            self.follow_items(b)?;
+            self.needs.follow();
+            self.need_panics()?;
+            if self.work.is_empty() {
+                return Ok(());
+            }
+        }
+        Ok(())
+    }
+
+    fn need_panics(&mut self) -> Result<(), NoMemory> {
+        for n in 1..13 {
+            if self.needs.has_panic(n as usize) {
+                self.need(b"$p", n)?;
+            }
+        }
+        Ok(())
+    }
+
+    fn follow_items(&mut self, b: &Body<'_>) -> Result<(), NoMemory> {
+        for _ in 0..u64::MAX {
+            let Some(n) = self.work.pop() else {
+                return Ok(());
+            };
+            self.follow_item(b, n as usize)?;
+        }
+        Ok(())
+    }
+
+    fn follow_item(&mut self, b: &Body<'_>, n: usize) -> Result<(), NoMemory> {
+        let from = match n {
+            0 => 0,
+            _ => end_of(&b.pool, n - 1),
+        };
+        let to = end_of(&b.pool, n);
+        for i in from..to {
+            if let Some(Node::Name(x)) = b.pool.nodes.get(i) {
+                self.need_name(&b.pool, *x)?;
+            }
+        }
+        if let Some(item) = b.pool.items.get(n)
+            && let Name::Numbered(word, k) = item_name(*item)
+            && word == b"$y".as_slice()
+        {
+            return self.need_type(b, k);
+        }
+        Ok(())
+    }
+
+    fn need_name(&mut self, pool: &Pool, x: Name) -> Result<(), NoMemory> {
+        match x {
+            Name::Word(word) => self.need_word(pool, word),
+            Name::Numbered(word, n) => self.need(word, n),
+        }
+    }
+
+    // The methods of a dynamic type, and its predeclared type; a report may tell its values.
+    fn need_type(&mut self, b: &Body<'_>, t: u32) -> Result<(), NoMemory> {
+        let mut row = get(self.first_row.as_slice(), t as usize);
+        for _ in 0..self.next_row.len() {
+            if row == 0 {
+                break;
+            }
+            self.need_row(b, row - 1)?;
+            row = get(self.next_row.as_slice(), (row - 1) as usize);
+        }
+        if let Held::Wide(_) = b.held(TypeId(t as u64)) {
+            self.needs.wide = true;
+            self.needs.need(b"$str64");
+        }
+        if let Some(plain) = predeclared(b, TypeId(t as u64)) {
+            return self.need(b"$y", name_number(plain.0));
+        }
+        Ok(())
+    }
+
+    fn need_row(&mut self, b: &Body<'_>, number: u32) -> Result<(), NoMemory> {
+        if let Some(row) = b.facts.method_row(number)
+            && is_error(b, row)
+        {
+            self.needs.errors = true;
+            self.needs.errors_are_plain = !b.facts.is_marked(row.func);
+        }
+        self.need(b"$r", number)
+    }
+}
+
+// Whether a report calls a method.
+fn is_error(b: &Body<'_>, row: &MethodRow) -> bool {
+    if row.name.as_bytes() != b"Error".as_slice() {
+        return false;
+    }
+    match b.facts.func(row.func) {
+        Some(f) => {
+            f.sig.params.as_slice().is_empty() && f.sig.results.as_slice() == [STR].as_slice()
+        }
+        None => false,
+    }
+}
+
+// How many expressions there were after an item.
+fn end_of(pool: &Pool, n: usize) -> usize {
+    match pool.ends.get(n) {
+        Some(end) => *end,
+        None => 0,
+    }
+}
