@@ -52,145 +52,234 @@ pub fn operands(c: &mut Checker, list: &Vec<Expr>) -> Result<Vec<Operand>, NoMem
 }
 
 /// What an expression is in what stands around it: its parts are typed, and its row joins them.
+///
+/// Forms are apart by families, so that a level of a deep tree takes little room.
 #[cycle(operand)]
 pub fn operand(c: &mut Checker, e: &Expr, around: Around) -> Result<Operand, NoMemory> {
-    let place = e.place;
-    let direct = around.direct;
-    let x = match &*e.form {
-        ExprForm::Name(text) => name(c, place, text)?,
-        ExprForm::Int(text) => int(c, place, text)?,
-        ExprForm::Rune(text) => rune(c, place, text)?,
-        ExprForm::Str(text) => string(c, place, text)?,
-        ExprForm::Paren(x) => operand(c, x, around)?,
+    let x = form(c, e, around)?;
+    finished(c, e.place, x)
+}
+
+#[cycle(operand)]
+fn form(c: &mut Checker, e: &Expr, around: Around) -> Result<Operand, NoMemory> {
+    match &*e.form {
+        ExprForm::Name(_) | ExprForm::Int(_) | ExprForm::Rune(_) | ExprForm::Str(_) => leaf(c, e),
+        ExprForm::Paren(x) => operand(c, x, around),
+        ExprForm::Unary(_, _) | ExprForm::Binary(_, _, _) => operation(c, e),
+        ExprForm::Select(_, _) | ExprForm::Index(_, _) | ExprForm::Assert(_, _) => primary(c, e),
+        ExprForm::Slice(_, _, _, _) => slice_form(c, e),
+        ExprForm::Call(_, _, _) => call_form(c, e),
+        ExprForm::Literal(_, _) => literal_form(c, e, around),
+        ExprForm::ArrayT(_, _) | ExprForm::SliceT(_) => list_type(c, e, around),
+        ExprForm::MapT(_, _) | ExprForm::ChanT(_, _) => reference_type(c, e),
+        _ => listed_type(c, e, around),
+    }
+}
+
+// Go, "Operands", "Identifiers".
+fn leaf(c: &mut Checker, e: &Expr) -> Result<Operand, NoMemory> {
+    match &*e.form {
+        ExprForm::Name(text) => name(c, e.place, text),
+        ExprForm::Int(text) => int(c, e.place, text),
+        ExprForm::Rune(text) => rune(c, e.place, text),
+        ExprForm::Str(text) => string(c, e.place, text),
+        _ => c.unknown(e.place),
+    }
+}
+
+// Go, "Operators".
+#[cycle(operand)]
+fn operation(c: &mut Checker, e: &Expr) -> Result<Operand, NoMemory> {
+    match &*e.form {
         ExprForm::Unary(prefix, x) => {
             let literal = is_literal(x);
             let x = operand(c, x, NOTHING)?;
-            unary_row(c, place, *prefix, x, literal)?
+            unary_row(c, e.place, *prefix, x, literal)
         }
         ExprForm::Binary(x, op, y) => {
             let x = operand(c, x, NOTHING)?;
             let y = operand(c, y, NOTHING)?;
-            binary(c, place, *op, x, y)?
+            binary(c, e.place, *op, x, y)
         }
+        _ => c.unknown(e.place),
+    }
+}
+
+// Go, "Selectors", "Index expressions", "Type assertions".
+#[cycle(operand)]
+fn primary(c: &mut Checker, e: &Expr) -> Result<Operand, NoMemory> {
+    match &*e.form {
         ExprForm::Select(x, name) => {
             let x = operand(c, x, NOTHING)?;
-            select_row(c, place, x, name)?
+            select_row(c, e.place, x, name)
         }
         ExprForm::Index(x, i) => {
             let x = operand(c, x, NOTHING)?;
             let i = operand(c, i, NOTHING)?;
-            index_row(c, place, x, i)?
-        }
-        ExprForm::Slice(x, low, high, max) => {
-            let x = operand(c, x, NOTHING)?;
-            let low = match low {
-                Some(low) => Some(operand(c, low, NOTHING)?),
-                None => None,
-            };
-            let high = match high {
-                Some(high) => Some(operand(c, high, NOTHING)?),
-                None => None,
-            };
-            let max = match max {
-                Some(max) => Some(operand(c, max, NOTHING)?),
-                None => None,
-            };
-            slice_row(c, place, x, low, high, max)?
+            index_row(c, e.place, x, i)
         }
         ExprForm::Assert(x, t) => {
             let x = operand(c, x, NOTHING)?;
             let t = operand(c, t, NOTHING)?;
             let t = wanted_type(c, t, false)?;
-            assertion(c, place, x, t)?
+            assertion(c, e.place, x, t)
         }
+        _ => c.unknown(e.place),
+    }
+}
+
+// Go, "Slice expressions".
+#[cycle(operand)]
+fn slice_form(c: &mut Checker, e: &Expr) -> Result<Operand, NoMemory> {
+    match &*e.form {
+        ExprForm::Slice(x, low, high, max) => {
+            let x = operand(c, x, NOTHING)?;
+            let low = bound(c, low)?;
+            let high = bound(c, high)?;
+            let max = bound(c, max)?;
+            slice_row(c, e.place, x, low, high, max)
+        }
+        _ => c.unknown(e.place),
+    }
+}
+
+#[cycle(operand)]
+fn bound(c: &mut Checker, e: &Option<Expr>) -> Result<Option<Operand>, NoMemory> {
+    match e {
+        Some(e) => Ok(Some(operand(c, e, NOTHING)?)),
+        None => Ok(None),
+    }
+}
+
+// Go, "Calls".
+#[cycle(operand)]
+fn call_form(c: &mut Checker, e: &Expr) -> Result<Operand, NoMemory> {
+    match &*e.form {
         ExprForm::Call(f, args, dots) => {
             let f = operand(c, f, NOTHING)?;
             let before = c.has_call;
             c.has_call = false;
             let args = operands(c, args)?;
-            call_row(c, place, f, args, *dots, before)?
+            call_row(c, e.place, f, args, *dots, before)
         }
+        _ => c.unknown(e.place),
+    }
+}
+
+// Go, "Composite literals".
+#[cycle(operand)]
+fn literal_form(c: &mut Checker, e: &Expr, around: Around) -> Result<Operand, NoMemory> {
+    match &*e.form {
         ExprForm::Literal(Some(t), elems) => {
-            let (t, counts) = match &*t.form {
-                ExprForm::ArrayT(None, of) => {
-                    let of = operand(c, of, DIRECT)?;
-                    (wanted_type(c, of, true)?, true)
-                }
-                _ => {
-                    let t = operand(c, t, DIRECT)?;
-                    (wanted_type(c, t, true)?, false)
-                }
-            };
-            let mut b = begin(c, place, t, counts);
+            let (t, counts) = literal_type(c, t)?;
+            let mut b = begin(c, e.place, t, counts);
             literal(c, &mut b, elems)?;
-            end(c, &b)?
+            end(c, &b)
         }
         ExprForm::Literal(None, elems) => {
             let (t, points) = elided_type(c, around.elided);
-            let mut b = begin(c, place, t, false);
+            let mut b = begin(c, e.place, t, false);
             literal(c, &mut b, elems)?;
             let x = end(c, &b)?;
             if points {
-                address_of_literal(c, place, x)?
-            } else {
-                x
+                return address_of_literal(c, e.place, x);
             }
+            Ok(x)
         }
-        ExprForm::Func(sig, _) => {
-            let t = signature(c, sig)?;
-            function_literal(c, place, t)?
+        _ => c.unknown(e.place),
+    }
+}
+
+// The type of a literal, or of its elements, which are then counted.
+#[cycle(operand)]
+fn literal_type(c: &mut Checker, t: &Expr) -> Result<(TypeId, bool), NoMemory> {
+    match &*t.form {
+        ExprForm::ArrayT(None, of) => {
+            let of = operand(c, of, DIRECT)?;
+            Ok((wanted_type(c, of, true)?, true))
         }
+        _ => {
+            let t = operand(c, t, DIRECT)?;
+            Ok((wanted_type(c, t, true)?, false))
+        }
+    }
+}
+
+// Go, "Array types", "Slice types".
+#[cycle(operand)]
+fn list_type(c: &mut Checker, e: &Expr, around: Around) -> Result<Operand, NoMemory> {
+    match &*e.form {
         ExprForm::ArrayT(Some(n), of) => {
             let n = operand(c, n, NOTHING)?;
             let n = array_length(c, n)?;
             let of = operand(c, of, around)?;
-            let of = wanted_type(c, of, direct)?;
-            let t = array_type(c, place, n, of)?;
-            type_operand(c, place, t)?
+            let of = wanted_type(c, of, around.direct)?;
+            let t = array_type(c, e.place, n, of)?;
+            type_operand(c, e.place, t)
         }
         ExprForm::ArrayT(None, of) => {
-            c.fault(FaultCode::BadArrayLength, place)?;
+            c.fault(FaultCode::BadArrayLength, e.place)?;
             operand(c, of, around)?;
-            c.unknown(place)?
+            c.unknown(e.place)
         }
         ExprForm::SliceT(of) => {
             let of = operand(c, of, NOTHING)?;
             let of = wanted_type(c, of, false)?;
             let t = c.slice_of(of)?;
-            type_operand(c, place, t)?
+            type_operand(c, e.place, t)
         }
-        ExprForm::StructT(list) => {
-            let mut rows = struct_rows(c);
-            fields(c, list, around, &mut rows)?;
-            let t = struct_type(c, place, rows)?;
-            type_operand(c, place, t)?
-        }
-        ExprForm::FuncT(sig) => {
-            let t = signature(c, sig)?;
-            type_operand(c, place, t)?
-        }
-        ExprForm::InterfaceT(list) => {
-            let mut rows = interface_rows(c);
-            members(c, list, &mut rows)?;
-            let t = interface_type(c, place, rows)?;
-            type_operand(c, place, t)?
-        }
+        _ => c.unknown(e.place),
+    }
+}
+
+// Go, "Map types", "Channel types".
+#[cycle(operand)]
+fn reference_type(c: &mut Checker, e: &Expr) -> Result<Operand, NoMemory> {
+    match &*e.form {
         ExprForm::MapT(key, of) => {
             let key = operand(c, key, DIRECT)?;
             let key = wanted_type(c, key, true)?;
             let of = operand(c, of, NOTHING)?;
             let of = wanted_type(c, of, false)?;
-            let t = map_type(c, place, key, of)?;
-            type_operand(c, place, t)?
+            let t = map_type(c, e.place, key, of)?;
+            type_operand(c, e.place, t)
         }
         ExprForm::ChanT(dir, of) => {
             let of = operand(c, of, NOTHING)?;
             let of = wanted_type(c, of, false)?;
             let t = c.chan_of(direction(*dir), of)?;
-            type_operand(c, place, t)?
+            type_operand(c, e.place, t)
         }
-    };
-    finished(c, place, x)
+        _ => c.unknown(e.place),
+    }
+}
+
+// Go, "Function literals", "Function types", "Struct types", "Interface types".
+#[cycle(operand)]
+fn listed_type(c: &mut Checker, e: &Expr, around: Around) -> Result<Operand, NoMemory> {
+    match &*e.form {
+        ExprForm::Func(sig, _) => {
+            let t = signature(c, sig)?;
+            function_literal(c, e.place, t)
+        }
+        ExprForm::FuncT(sig) => {
+            let t = signature(c, sig)?;
+            type_operand(c, e.place, t)
+        }
+        ExprForm::StructT(list) => {
+            let mut rows = struct_rows(c);
+            fields(c, list, around, &mut rows)?;
+            let t = struct_type(c, e.place, rows)?;
+            type_operand(c, e.place, t)
+        }
+        ExprForm::InterfaceT(list) => {
+            let mut rows = interface_rows(c);
+            members(c, list, &mut rows)?;
+            let t = interface_type(c, e.place, rows)?;
+            type_operand(c, e.place, t)
+        }
+        _ => c.unknown(e.place),
+    }
 }
 
 // An operand whose type stands for nothing yet isn't typed.
