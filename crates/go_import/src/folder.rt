@@ -1,5 +1,7 @@
 //! The files of a folder.
 
+ghost use Rattle.go_import.specs.Left.{Leaves};
+
 use crate::program::{FILE_LIMIT, Program, copied};
 use crate::reading::{Read, add_file};
 use gj_base::{FileError, Files, NoMemory, Text};
@@ -15,7 +17,9 @@ pub fn read_folder<F: Files>(
     folder: &str,
     package: usize,
     path: &Text,
-) -> Result<(), LoadRefusal> {
+) -> Result<(), LoadRefusal>
+    ensures { Leaves result (F.state files.old) (F.state files.new) }
+{
     let mut names = go_names(p.alloc, files, folder)?;
     while let Some(name) = names.pop_first() {
         if let Some(read) = read_file(p.alloc, files, folder, name)? {
@@ -34,7 +38,9 @@ fn go_names<F: Files>(
     alloc: Global,
     files: &mut F,
     folder: &str,
-) -> Result<BTreeSet<Text>, LoadRefusal> {
+) -> Result<BTreeSet<Text>, LoadRefusal>
+    ensures { Leaves result (F.state files.old) (F.state files.new) }
+{
     match files.list(alloc, folder) {
         Ok(names) => Ok(sorted_go_names(alloc, names)?),
         Err(FileError::Missing) => Ok(BTreeSet::new(alloc)),
@@ -65,7 +71,9 @@ fn read_file<F: Files>(
     files: &mut F,
     folder: &str,
     name: Text,
-) -> Result<Option<Read>, LoadRefusal> {
+) -> Result<Option<Read>, LoadRefusal>
+    ensures { Leaves result (F.state files.old) (F.state files.new) }
+{
     let Some(path) = joined(alloc, folder, name.as_bytes())? else {
         return Ok(None);
     };

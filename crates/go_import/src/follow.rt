@@ -1,5 +1,7 @@
 //! Reading a program, import by import.
 
+ghost use Rattle.go_import.specs.Left.{Leaves};
+
 use crate::embedded::embedded_text;
 use crate::folder::{joined, read_folder};
 use crate::judge::judge;
@@ -26,7 +28,9 @@ pub fn load_program<F: Files>(
     files: &mut F,
     root: &str,
     src: &str,
-) -> Result<Packages, LoadRefusal> {
+) -> Result<Packages, LoadRefusal>
+    ensures { Leaves result (F.state files.old) (F.state files.new) }
+{
     let mut p = Program::new(alloc);
     match read_program(&mut p, files, root, src) {
         Ok(()) => judge(p),
@@ -39,7 +43,9 @@ fn read_program<F: Files>(
     files: &mut F,
     root: &str,
     src: &str,
-) -> Result<(), LoadRefusal> {
+) -> Result<(), LoadRefusal>
+    ensures { Leaves result (F.state files.old) (F.state files.new) }
+{
     let path = Text::new(p.alloc);
     read_folder(p, files, root, 0, &path)?;
     if p.files.len() == 0 && !p.is_too_large() {
@@ -63,7 +69,9 @@ fn follow_file<F: Files>(
     files: &mut F,
     src: &str,
     file: usize,
-) -> Result<(), LoadRefusal> {
+) -> Result<(), LoadRefusal>
+    ensures { Leaves result (F.state files.old) (F.state files.new) }
+{
     for import in 0..import_count(p, file) {
         if p.is_too_large() {
             return Ok(());
@@ -128,7 +136,9 @@ fn path_number<F: Files>(
     files: &mut F,
     src: &str,
     path: Text,
-) -> Result<usize, LoadRefusal> {
+) -> Result<usize, LoadRefusal>
+    ensures { Leaves result (F.state files.old) (F.state files.new) }
+{
     if let Some(number) = p.numbers.get(&path) {
         return Ok(*number);
     }
@@ -146,7 +156,9 @@ fn read_path<F: Files>(
     src: &str,
     number: usize,
     path: &Text,
-) -> Result<Target, LoadRefusal> {
+) -> Result<Target, LoadRefusal>
+    ensures { Leaves result (F.state files.old) (F.state files.new) }
+{
     if path.as_bytes() == HOST {
         return Ok(Target::Host);
     }
@@ -168,7 +180,9 @@ fn read_package<F: Files>(
     folder: &str,
     number: usize,
     path: &Text,
-) -> Result<Target, LoadRefusal> {
+) -> Result<Target, LoadRefusal>
+    ensures { Leaves result (F.state files.old) (F.state files.new) }
+{
     let first = p.files.len();
     let package = p.packages.len();
     read_folder(p, files, folder, package, path)?;
