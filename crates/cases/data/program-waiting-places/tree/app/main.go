@@ -44,7 +44,7 @@ type thing struct {
 	next *thing
 }
 
-func (t *thing) get(k int) *thing { t.n += slow(k); return t }
+func (t *thing) get(k int) *thing { k = slow(k); t.n += k; return t }
 func (t thing) sum(k int) int     { return t.n + slow(k) }
 
 type getter interface {
