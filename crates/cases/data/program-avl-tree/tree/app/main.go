@@ -179,7 +179,7 @@ func main() {
 
 	var big *node
 	x, size, good := uint32(99), 0, true
-	for i := 0; i < 600; i++ {
+	for i := 0; i < 200; i++ {
 		x = x*1664525 + 1013904223
 		k := int(x>>20) % 500
 		var did bool

@@ -98,7 +98,7 @@ func (b board) turned() board {
 
 func main() {
 	s := &solver{known: map[board]answer{}}
-	var empty board
+	empty := board{nought, none, none, none, cross}
 	fmt.Println(s.best(empty, cross).score, s.best(empty, cross).move, len(s.known), s.asked)
 
 	b, p := empty, cross
