@@ -152,7 +152,7 @@ func main() {
 	}
 	good := true
 	d := date{1599, dec, 31}
-	for n, end := d.number(), d.number()+146097*2; n < end; n += 97 {
+	for n, end := d.number(), d.number()+146097*2; n < end; n += 977 {
 		d = fromNumber(n)
 		good = good && d.number() == n && d.valid() && d.add(1).sub(d) == 1
 	}
