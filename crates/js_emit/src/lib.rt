@@ -6,8 +6,11 @@
 #![tactic(auto)]
 
 pub mod classes;
+pub mod direct;
+pub mod methods;
 pub mod program;
 pub mod reach;
+pub mod start;
 pub mod top;
 
 pub use program::{EmitRefusal, emit};

@@ -1,20 +1,18 @@
 //! From a program to its script.
 
 use crate::classes::join_tagged;
+use crate::direct::{add_direct_init, is_direct};
 use crate::reach::Reach;
-use crate::top::{
-    add_dynamic_types, add_globals, add_panics, fill_method, fill_predeclared, name_number,
-    predeclared,
-};
+use crate::start::{add_start, reach_direct, reach_turns};
+use crate::top::{add_dynamic_types, add_globals, add_panics};
 use gj_base::{NoMemory, Text};
 use go_core::program::{InitStep, InitSteps, Program};
 use go_core::{FuncId, FuncSet};
-use go_type::types::TypeId;
 use js_body::Body;
 use js_facts::Facts;
 use js_flat::{add_adapters, add_init, add_machine, add_row};
 use js_plain::add_plain;
-use js_pool::{Name, Pool, Unmade};
+use js_pool::{Pool, Unmade};
 use js_tree::{JsItem, Script};
 use std::alloc::Global;
 
@@ -51,14 +49,15 @@ pub fn emit(
     let mut facts = Facts::new(alloc, program, marks)?;
     join_tagged(alloc, &mut facts)?;
     let mut b = Body::new(Pool::new(alloc), facts);
-    add_all(&mut b, order.items.as_slice());
-    let mut reach = Reach::new(alloc, &b.pool, program)?;
-    reach.need_word(&b.pool, b"$first")?;
-    reach.need_word(&b.pool, b"$now")?;
-    reach.need_word(&b.pool, b"$rest")?;
-    reach.need_word(&b.pool, b"$turn")?;
-    reach.follow(&b)?;
-    add_start(&mut b, &reach);
+    let direct = is_direct(alloc, &b.facts, order.items.as_slice())?;
+    add_all(&mut b, order.items.as_slice(), direct);
+    let mut reach = Reach::new(alloc, &b)?;
+    if direct {
+        reach_direct(&mut reach, &b)?;
+    } else {
+        reach_turns(&mut reach, &b)?;
+    }
+    add_start(&mut b, &reach, direct);
     if b.pool.failed || b.facts.failed {
         return Err(EmitRefusal::NoMemory);
     }
@@ -66,7 +65,7 @@ pub fn emit(
 }
 
 // All that a script of the program may need.
-fn add_all(b: &mut Body<'_>, order: &[InitStep]) {
+fn add_all(b: &mut Body<'_>, order: &[InitStep], direct: bool) {
     b.add_descriptions();
     b.add_zeros();
     add_dynamic_types(b);
@@ -74,7 +73,11 @@ fn add_all(b: &mut Body<'_>, order: &[InitStep]) {
     add_globals(b);
     add_functions(b);
     add_rows(b);
-    add_init(b, order);
+    if direct {
+        add_direct_init(b, order);
+    } else {
+        add_init(b, order);
+    }
     add_adapters(b);
 }
 
@@ -95,43 +98,6 @@ fn add_rows(b: &mut Body<'_>) {
     let mut n: u32 = 0;
     for _ in 0..b.facts.program.methods.items.len() {
         add_row(b, n);
-        n = n.saturating_add(1);
-    }
-}
-
-// `function $start(){..$now=$first($rest);$turn();}`
-fn add_start(b: &mut Body<'_>, reach: &Reach) {
-    let mark = b.pool.open();
-    fill_types(b, reach);
-    fill_methods(b, reach);
-    let rest = b.pool.name(b"$rest");
-    let first = b.pool.call1(b"$first", rest);
-    b.pool.assign(Name::Word(b"$now"), first);
-    let turn = b.pool.call0(b"$turn");
-    b.pool.perform(turn);
-    let body = b.pool.close(mark);
-    let params = b.pool.params(&[]);
-    b.pool.function(Name::Word(b"$start"), params, body);
-}
-
-fn fill_types(b: &mut Body<'_>, reach: &Reach) {
-    for t in 0..b.table().len() {
-        let t = TypeId(t);
-        if reach.has(b"$y", name_number(t.0))
-            && let Some(plain) = predeclared(b, t)
-        {
-            fill_predeclared(b, t, plain);
-        }
-    }
-}
-
-fn fill_methods(b: &mut Body<'_>, reach: &Reach) {
-    let rows = b.facts.program.methods.items.as_slice();
-    let mut n: u32 = 0;
-    for row in rows {
-        if reach.has(b"$y", name_number(row.ty.0)) {
-            fill_method(b, n, row);
-        }
         n = n.saturating_add(1);
     }
 }

@@ -1,9 +1,10 @@
 //! What a script needs: the items that `$start` leads to by names, and the parts of the run-time library
 //! that these mention.
 
+use crate::methods::{Methods, get, put};
 use crate::top::{name_number, predeclared};
 use gj_base::NoMemory;
-use go_core::program::{MethodRow, Program};
+use go_core::program::MethodRow;
 use go_type::predeclared::STR;
 use go_type::types::TypeId;
 use js_body::Body;
@@ -22,9 +23,7 @@ pub struct Reach {
     by_number: Vec<Vec<u32>>,
     reached: Vec<bool>,
     work: Vec<u32>,
-    /// By type and by row: the rows of a type as a list, by their numbers from 1 on.
-    first_row: Vec<u32>,
-    next_row: Vec<u32>,
+    methods: Methods,
     pub needs: Needs,
 }
 
@@ -48,32 +47,14 @@ fn item_name(item: Item) -> Name {
     }
 }
 
-fn put(list: &mut Vec<u32>, at: usize, n: u32) -> Result<(), NoMemory> {
-    for _ in list.len()..at.saturating_add(1) {
-        list.push(0)?;
-    }
-    if at < list.len() {
-        list[at] = n;
-    }
-    Ok(())
-}
-
-fn get(list: &[u32], at: usize) -> u32 {
-    match list.get(at) {
-        Some(n) => *n,
-        None => 0,
-    }
-}
-
 impl Reach {
     /// Nothing is reached.
-    pub fn new(alloc: Global, pool: &Pool, program: &Program) -> Result<Reach, NoMemory> {
+    pub fn new(alloc: Global, b: &Body<'_>) -> Result<Reach, NoMemory> {
         let mut all = Reach {
             by_number: Vec::new(alloc),
             reached: Vec::new(alloc),
             work: Vec::new(alloc),
-            first_row: Vec::new(alloc),
-            next_row: Vec::new(alloc),
+            methods: Methods::new(alloc, b)?,
             needs: Needs::new(alloc),
         };
         all.needs.errors = false;
@@ -81,8 +62,7 @@ impl Reach {
         for _ in 0..LETTERS.len() {
             all.by_number.push(Vec::new(alloc))?;
         }
-        all.add_items(pool)?;
-        all.add_rows(program)?;
+        all.add_items(&b.pool)?;
         Ok(all)
     }
 
@@ -96,22 +76,6 @@ impl Reach {
                 if i < self.by_number.len() {
                     put(&mut self.by_number[i], k as usize, n)?;
                 }
-            }
-        }
-        Ok(())
-    }
-
-    fn add_rows(&mut self, program: &Program) -> Result<(), NoMemory> {
-        let mut n: u32 = 0;
-        for row in program.methods.items.as_slice() {
-            n = n.saturating_add(1);
-            let t = row.ty.0;
-            if t < program.types.len() {
-                let before = get(self.first_row.as_slice(), t as usize);
-                self.next_row.push(before)?;
-                put(&mut self.first_row, t as usize, n)?;
-            } else {
-                self.next_row.push(0)?;
             }
         }
         Ok(())
@@ -219,8 +183,9 @@ impl Reach {
         };
         let to = end_of(&b.pool, n);
         for i in from..to {
-            if let Some(Node::Name(x)) = b.pool.nodes.get(i) {
-                self.need_name(&b.pool, *x)?;
+            if let Some(node) = b.pool.nodes.get(i) {
+                let node = *node;
+                self.need_node(b, node)?;
             }
         }
         if let Some(item) = b.pool.items.get(n)
@@ -232,6 +197,14 @@ impl Reach {
         Ok(())
     }
 
+    fn need_node(&mut self, b: &Body<'_>, node: Node) -> Result<(), NoMemory> {
+        match node {
+            Node::Name(x) => self.need_name(&b.pool, x),
+            Node::Str(bytes) => self.need_text(b, bytes.of(b.pool.bytes.as_slice())),
+            _ => Ok(()),
+        }
+    }
+
     fn need_name(&mut self, pool: &Pool, x: Name) -> Result<(), NoMemory> {
         match x {
             Name::Word(word) => self.need_word(pool, word),
@@ -241,13 +214,16 @@ impl Reach {
 
     // The methods of a dynamic type, and its predeclared type; a report may tell its values.
     fn need_type(&mut self, b: &Body<'_>, t: u32) -> Result<(), NoMemory> {
-        let mut row = get(self.first_row.as_slice(), t as usize);
-        for _ in 0..self.next_row.len() {
+        let mut row = self.methods.first_of_type(t);
+        for _ in 0..self.methods.many() {
             if row == 0 {
                 break;
             }
-            self.need_row(b, row - 1)?;
-            row = get(self.next_row.as_slice(), (row - 1) as usize);
+            self.tell_error(b, row - 1)?;
+            if self.methods.is_used(row - 1) {
+                self.need(b"$r", row - 1)?;
+            }
+            row = self.methods.next_of_type(row);
         }
         if let Held::Wide(_) = b.held(TypeId(t as u64)) {
             self.needs.wide = true;
@@ -259,14 +235,37 @@ impl Reach {
         Ok(())
     }
 
-    fn need_row(&mut self, b: &Body<'_>, number: u32) -> Result<(), NoMemory> {
+    // A string may be the text under which a method is found.
+    fn need_text(&mut self, b: &Body<'_>, text: &[u8]) -> Result<(), NoMemory> {
+        if text.first() != Some(&b'$') {
+            return Ok(());
+        }
+        let mut row = self.methods.use_text(b.pool.alloc, text)?;
+        for _ in 0..self.methods.many() {
+            if row == 0 {
+                return Ok(());
+            }
+            if let Some(found) = b.facts.method_row(row - 1)
+                && self.has(b"$y", name_number(found.ty.0))
+            {
+                self.need(b"$r", row - 1)?;
+            }
+            row = self.methods.next_of_text(row);
+        }
+        Ok(())
+    }
+
+    // A report calls a method `Error`, but for that of a run-time panic, whose text it is.
+    fn tell_error(&mut self, b: &Body<'_>, number: u32) -> Result<(), NoMemory> {
         if let Some(row) = b.facts.method_row(number)
+            && row.ty.0 != b.facts.program.hidden.0
             && is_error(b, row)
         {
             self.needs.errors = true;
             self.needs.errors_are_plain = !b.facts.is_marked(row.func);
+            return self.need_text(b, b"$Error.:>1,");
         }
-        self.need(b"$r", number)
+        Ok(())
     }
 }
 

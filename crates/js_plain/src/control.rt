@@ -3,7 +3,7 @@
 
 use go_core::statement::{BranchKind, Label};
 use js_body::Body;
-use js_pool::{ExprId, Mark, Name};
+use js_pool::{Block, ExprId, Mark, Name};
 
 fn label_name(n: u32) -> Name {
     Name::Numbered(b"$L", n)
@@ -33,6 +33,57 @@ pub fn leave_unless(b: &mut Body<'_>, n: u32) {
 pub fn close_at(b: &mut Body<'_>, mark: Mark, n: u32) {
     let block = b.pool.close(mark);
     b.pool.block_at(label_name(n), block);
+}
+
+// ---- ifs
+
+/// An `if`: the label of the block around the chain that it is of, and whether it begins the chain, where
+/// the block does.
+#[derive(Clone, Copy)]
+pub struct If {
+    pub end: Option<u32>,
+    begins: bool,
+    mark: Mark,
+}
+
+/// Begins an `if`, in the chain within a block or in none. Where another `if` is all that its `else` holds,
+/// both are of a chain.
+pub fn begin_if(b: &mut Body<'_>, around: Option<u32>, goes_on: bool) -> If {
+    let begins = goes_on && around.is_none();
+    let end = if begins { Some(b.fresh(1)) } else { around };
+    let mark = b.pool.open();
+    If { end, begins, mark }
+}
+
+/// Ends the arm of an `if` that begins at a mark.
+pub fn end_arm(b: &mut Body<'_>, c: If, test: ExprId, mark: Mark) -> Block {
+    if let Some(n) = c.end {
+        leave_at(b, n);
+    }
+    let arm = b.pool.close(mark);
+    if c.end.is_some() {
+        b.pool.when(test, arm);
+    }
+    arm
+}
+
+/// Ends an `if`, whose `else` begins at a mark.
+pub fn end_if(b: &mut Body<'_>, c: If, test: ExprId, arm: Block, mark: Mark) {
+    match c.end {
+        Some(n) => {
+            if c.begins {
+                close_at(b, c.mark, n);
+            }
+        }
+        None => {
+            let other = b.pool.close(mark);
+            if other.many == 0 {
+                b.pool.when(test, arm);
+            } else {
+                b.pool.when_else(test, arm, other);
+            }
+        }
+    }
 }
 
 // ---- loops

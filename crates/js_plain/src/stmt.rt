@@ -1,13 +1,14 @@
 //! Statements of a plain function.
 
 use crate::control::{
-    Clauses, Turns, begin_choice, begin_clause, begin_loop, begin_turn, branch, choose, close_at,
-    end_choice, end_clause, end_clauses, end_loop, end_turn, leave_at, leave_unless, leave_where,
-    return_values,
+    Clauses, Turns, begin_choice, begin_clause, begin_if, begin_loop, begin_turn, branch, choose,
+    close_at, end_arm, end_choice, end_clause, end_clauses, end_if, end_loop, end_turn,
+    leave_unless, leave_where, return_values,
 };
-use go_core::node::CoreExpr;
-use go_core::statement::{CoreClauses, CoreStmt, CoreStmtForm, CoreStmts, CoreTest, Label};
+use go_core::node::{CoreExpr, PlaceForm, VarId};
+use go_core::statement::{CoreClauses, CoreStmt, CoreStmtForm, CoreStmts, CoreTest, Label, Target};
 use js_body::Body;
+use js_pool::{Name, Node};
 use js_values::expr::{expr, exprs};
 use js_values::ranges::{begin_range, has_next, take_next};
 use js_values::simple::simple;
@@ -15,14 +16,27 @@ use js_values::simple::simple;
 /// Statements, first to last.
 #[cycle(stmt)]
 pub fn stmts<'p>(b: &mut Body<'p>, list: &'p CoreStmts) {
+    let mut fresh: Vec<VarId> = Vec::new(b.pool.alloc);
     for s in &list.items {
-        stmt(b, s);
+        match &*s.form {
+            CoreStmtForm::Declare(var) => declare_later(b, &mut fresh, var.id),
+            CoreStmtForm::Store { targets, .. } => {
+                first_store(b, s, targets.items.as_slice(), fresh.as_slice());
+                fresh.truncate(0);
+            }
+            _ => {
+                declare_all(b, &mut fresh);
+                stmt(b, s, None);
+            }
+        }
     }
+    declare_all(b, &mut fresh);
 }
 
-/// A statement, on an empty stack.
+/// A statement, on an empty stack. An `if` of a chain of `if` and `else if` leaves the block around the chain
+/// after its arm, so that chains don't nest.
 #[cycle(stmt)]
-pub fn stmt<'p>(b: &mut Body<'p>, s: &'p CoreStmt) {
+pub fn stmt<'p>(b: &mut Body<'p>, s: &'p CoreStmt, around: Option<u32>) {
     if simple(b, s) {
         return;
     }
@@ -33,26 +47,21 @@ pub fn stmt<'p>(b: &mut Body<'p>, s: &'p CoreStmt) {
             when_true,
             when_false,
         } => {
-            if is_one_if(when_false) {
-                let end = b.fresh(1);
-                let mark = b.pool.open();
-                chain(b, end, s);
-                close_at(b, mark, end);
-                return;
-            }
+            let c = begin_if(b, around, is_one_if(when_false));
             expr(b, condition);
-            let c = b.pop();
+            let test = b.pop().e;
             let mark = b.pool.open();
             stmts(b, when_true);
-            let yes = b.pool.close(mark);
-            if when_false.items.is_empty() {
-                b.pool.when(c.e, yes);
-                return;
-            }
+            let arm = end_arm(b, c, test, mark);
             let mark = b.pool.open();
-            stmts(b, when_false);
-            let no = b.pool.close(mark);
-            b.pool.when_else(c.e, yes, no);
+            if is_one_if(when_false) {
+                for other in &when_false.items {
+                    stmt(b, other, c.end);
+                }
+            } else {
+                stmts(b, when_false);
+            }
+            end_if(b, c, test, arm, mark);
         }
         CoreStmtForm::Loop {
             label,
@@ -118,32 +127,6 @@ pub fn stmt<'p>(b: &mut Body<'p>, s: &'p CoreStmt) {
     }
 }
 
-// A chain of `if` and `else if`, without nesting: each arm leaves the block around.
-#[cycle(stmt)]
-fn chain<'p>(b: &mut Body<'p>, end: u32, s: &'p CoreStmt) {
-    if let CoreStmtForm::If {
-        condition,
-        when_true,
-        when_false,
-    } = &*s.form
-    {
-        expr(b, condition);
-        let c = b.pop();
-        let mark = b.pool.open();
-        stmts(b, when_true);
-        leave_at(b, end);
-        let yes = b.pool.close(mark);
-        b.pool.when(c.e, yes);
-        if is_one_if(when_false) {
-            for other in &when_false.items {
-                chain(b, end, other);
-            }
-        } else {
-            stmts(b, when_false);
-        }
-    }
-}
-
 // The clauses of a switch.
 #[cycle(stmt)]
 fn chosen<'p>(b: &mut Body<'p>, clauses: &'p CoreClauses, label: Label, c: Clauses) {
@@ -157,6 +140,65 @@ fn chosen<'p>(b: &mut Body<'p>, clauses: &'p CoreClauses, label: Label, c: Claus
 }
 
 // ---- what holds no statements
+
+// A variable that is neither boxed nor in an array of its own is declared when a statement comes that needs it.
+fn declare_later(b: &mut Body<'_>, fresh: &mut Vec<VarId>, v: VarId) {
+    let h = b.home(v);
+    if h.boxed || b.is_block(h.ty) {
+        return b.declare(v);
+    }
+    if fresh.push(v).is_err() {
+        b.pool.failed = true;
+    }
+}
+
+fn declare_all(b: &mut Body<'_>, fresh: &mut Vec<VarId>) {
+    for v in fresh.as_slice() {
+        b.declare(*v);
+    }
+    fresh.truncate(0);
+}
+
+// An assignment after fresh variables: those that it sets, and doesn't read, need no zero before.
+fn first_store<'p>(b: &mut Body<'p>, s: &'p CoreStmt, targets: &'p [Target], fresh: &[VarId]) {
+    let from = b.pool.nodes.len();
+    let mark = b.pool.open();
+    simple(b, s);
+    let block = b.pool.close(mark);
+    let to = b.pool.nodes.len();
+    for v in fresh {
+        if !sets(targets, *v) || is_read(b, *v, from, to) {
+            b.declare(*v);
+        }
+    }
+    b.pool.include(block);
+}
+
+fn sets(targets: &[Target], v: VarId) -> bool {
+    for t in targets {
+        if let Target::Place { place, .. } = t
+            && let PlaceForm::Local(x) = &*place.form
+            && *x == v
+        {
+            return true;
+        }
+    }
+    false
+}
+
+// Whether expressions with these numbers name a variable's slot.
+fn is_read(b: &Body<'_>, v: VarId, from: usize, to: usize) -> bool {
+    let slot = b.home(v).slot;
+    for i in from..to {
+        if let Some(Node::Name(Name::Numbered(word, n))) = b.pool.nodes.get(i)
+            && *n == slot
+            && *word == b"$v".as_slice()
+        {
+            return true;
+        }
+    }
+    false
+}
 
 fn is_one_if(list: &CoreStmts) -> bool {
     if let [only] = list.items.as_slice()
