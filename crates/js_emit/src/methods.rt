@@ -79,9 +79,16 @@ impl Methods {
         put(&mut self.first_of_type, t as usize, n)
     }
 
+    fn number_of(&self, text: &Text) -> Option<usize> {
+        match self.texts.get(text) {
+            Some(k) => Some(*k),
+            None => None,
+        }
+    }
+
     fn text_number(&mut self, text: Text) -> Result<usize, NoMemory> {
-        if let Some(k) = self.texts.get(&text) {
-            return Ok(*k);
+        if let Some(k) = self.number_of(&text) {
+            return Ok(k);
         }
         let k = self.used.len();
         self.used.push(false)?;
@@ -92,10 +99,9 @@ impl Methods {
     /// A string is used: the first row with this text, where it wasn't used before.
     pub fn use_text(&mut self, alloc: Global, text: &[u8]) -> Result<u32, NoMemory> {
         let text = Text::from_slice(alloc, text)?;
-        let Some(k) = self.texts.get(&text) else {
+        let Some(k) = self.number_of(&text) else {
             return Ok(0);
         };
-        let k = *k;
         if k >= self.used.len() || self.used[k] {
             return Ok(0);
         }
@@ -105,10 +111,10 @@ impl Methods {
 
     /// Whether the text of a row is used.
     pub fn is_used(&self, row: u32) -> bool {
-        let Some(k) = self.text_of.get(row as usize) else {
-            return false;
-        };
-        *k < self.used.len() && self.used[*k]
+        match self.text_of.get(row as usize) {
+            Some(k) => *k < self.used.len() && self.used[*k],
+            None => false,
+        }
     }
 
     /// How many rows there are.

@@ -177,9 +177,10 @@ impl Reach {
     }
 
     fn follow_item(&mut self, b: &Body<'_>, n: usize) -> Result<(), NoMemory> {
-        let from = match n {
-            0 => 0,
-            _ => end_of(&b.pool, n - 1),
+        let from = if n == 0 {
+            0
+        } else {
+            end_of(&b.pool, n - 1)
         };
         let to = end_of(&b.pool, n);
         for i in from..to {
