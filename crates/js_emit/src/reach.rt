@@ -177,11 +177,7 @@ impl Reach {
     }
 
     fn follow_item(&mut self, b: &Body<'_>, n: usize) -> Result<(), NoMemory> {
-        let from = if n == 0 {
-            0
-        } else {
-            end_of(&b.pool, n - 1)
-        };
+        let from = if n == 0 { 0 } else { end_of(&b.pool, n - 1) };
         let to = end_of(&b.pool, n);
         for i in from..to {
             if let Some(node) = b.pool.nodes.get(i) {
