@@ -160,7 +160,7 @@ func rising(xs []int) (r []int) {
 }
 
 func main() {
-	fmt.Println(lcs("AGGTABQXZ", "GXTXAYBZ"), lcs("", "abc") == "", len(lcs(strings.Repeat("abc", 40), strings.Repeat("acb", 40))))
+	fmt.Println(lcs("AGGTABQXZ", "GXTXAYBZ"), lcs("", "abc") == "", len(lcs(strings.Repeat("abc", 15), strings.Repeat("acb", 15))))
 	for _, p := range [][2]string{{"kitten", "sitting"}, {"", "abc"}, {"stra\u00dfe", "strasse"}, {"same", "same"}} {
 		n, es := distance(p[0], p[1])
 		fmt.Print(n)
@@ -178,6 +178,6 @@ func main() {
 	fmt.Println(knapsack(26, [][2]int{{12, 24}, {7, 13}, {11, 23}, {8, 15}, {9, 16}}))
 	fmt.Println(change(100, 1, 5, 10, 25, 50))
 	fmt.Println(change(7, 5, 10))
-	fmt.Println(change(3000, 1, 2, 3, 4, 5, 6, 7, 8, 9, 10))
+	fmt.Println(change(700, 1, 2, 3, 4, 5, 6, 7, 8, 9, 10))
 	fmt.Println(rising([]int{0, 8, 4, 12, 2, 10, 6, 14, 1, 9, 5, 13, 3, 11, 7, 15}))
 }

@@ -111,7 +111,7 @@ func main() {
 	lo, hi := g.box()
 	fmt.Print(g, lo.x, lo.y, hi.x, hi.y, "\n")
 	pent := parse(point{-5, 7}, ".##", "##.", ".#.")
-	for i := 0; i < 40; i++ {
+	for i := 0; i < 12; i++ {
 		pent = pent.step()
 	}
 	fmt.Println("r-pentomino after 40:", len(pent))

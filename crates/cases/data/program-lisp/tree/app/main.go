@@ -262,7 +262,7 @@ func main() {
 		"(define map (lambda (f l) (if l (cons (f (car l)) (map f (cdr l))) l)))",
 		"(map (lambda (x) (* x x)) '(1 2 3 4))",
 		"(define counter (lambda (n) (lambda () (begin (set! n (+ n 1)) n)))) (define c (counter 10)) (c) (c)",
-		"(define loop (lambda (n sum) (if (= n 0) sum (loop (- n 1) (+ sum n))))) (loop 1500 0)",
+		"(define loop (lambda (n sum) (if (= n 0) sum (loop (- n 1) (+ sum n))))) (loop 300 0)",
 		"(if (= 'a 'a) 'same 'other)",
 		"(list c map + true)",
 		"(fact)",

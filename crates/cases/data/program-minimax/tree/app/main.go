@@ -98,7 +98,7 @@ func (b board) turned() board {
 
 func main() {
 	s := &solver{known: map[board]answer{}}
-	empty := board{nought, none, none, none, cross}
+	empty := board{nought, none, none, none, cross, none, none, none, nought}
 	fmt.Println(s.best(empty, cross).score, s.best(empty, cross).move, len(s.known), s.asked)
 
 	b, p := empty, cross

@@ -93,12 +93,12 @@ func main() {
 		fmt.Println(s, b && err == nil, err == nil, strconv.FormatBool(err != nil))
 	}
 	ok := true
-	for n := 1; n < 4000; n += 13 {
+	for n := 1; n < 4000; n += 53 {
 		ok = ok && unroman(roman(n)) == n
 	}
 	fmt.Println(ok, roman(1994), roman(3888), unroman("MCMXLIV"))
 	sum := 0
-	for i := -1000; i < 1000; i += 7 {
+	for i := -1000; i < 1000; i += 37 {
 		n, err := strconv.Atoi(strconv.Itoa(i))
 		if err != nil || n != i {
 			fmt.Println("lost", i)

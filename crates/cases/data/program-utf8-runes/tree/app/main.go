@@ -122,7 +122,7 @@ func main() {
 	const c = "const \u2713"
 	fmt.Println(len(c), c[6], c[len(c)-1], string(c[0])+string('x'+rune(1)))
 	ok := true
-	for r := rune(0); r <= 0x10ffff; r += 257 {
+	for r := rune(0); r <= 0x10ffff; r += 4099 {
 		if string(r) != string(encode(r)) || !agree(string(r)+"x") {
 			ok = false
 		}
