@@ -89,33 +89,45 @@ pub fn signature(c: &mut Checker, sig: &Sig) -> Result<TypeId, NoMemory> {
     if let Results::List(list) = &sig.results {
         distinct(c, &mut names, list)?;
     }
-    let mut variadic = false;
-    let params = params(c, &sig.params, Some(&mut variadic))?;
-    let results = match &sig.results {
-        Results::None => Some(Vec::new(c.alloc)),
+    let params = param_types(c, &sig.params, true)?;
+    let results = result_types(c, &sig.results)?;
+    let Some((params, variadic)) = params else {
+        return Ok(NONE);
+    };
+    let Some((results, _)) = results else {
+        return Ok(NONE);
+    };
+    c.func_of(params, results, variadic)
+}
+
+// The types of results, as of parameters.
+#[cycle(operand)]
+fn result_types(
+    c: &mut Checker,
+    results: &Results,
+) -> Result<Option<(Vec<TypeId>, bool)>, NoMemory> {
+    let mut types: Vec<TypeId> = Vec::new(c.alloc);
+    match results {
+        Results::None => Ok(Some((types, false))),
         Results::Type(e) => {
             let t = operand(c, e, NOTHING)?;
             let t = wanted_type(c, t, false)?;
-            let mut one = Vec::new(c.alloc);
-            one.push(t)?;
-            Some(one)
+            types.push(t)?;
+            Ok(Some((types, false)))
         }
-        Results::List(list) => self::params(c, list, None)?,
-    };
-    match (params, results) {
-        (Some(params), Some(results)) => c.func_of(params, results, variadic),
-        _ => Ok(NONE),
+        Results::List(list) => param_types(c, list, false),
     }
 }
 
-// The types of a parameter list: F53 where it is none.
+// The types of a parameter list, and whether the last one may have any number of arguments: F53 where it
+// is none.
 #[cycle(operand)]
-fn params(
+fn param_types(
     c: &mut Checker,
     list: &Params,
-    variadic: Option<&mut bool>,
-) -> Result<Option<Vec<TypeId>>, NoMemory> {
-    let good = is_good_list(list, variadic.is_some());
+    may_vary: bool,
+) -> Result<Option<(Vec<TypeId>, bool)>, NoMemory> {
+    let good = is_good_list(list, may_vary);
     if !good {
         c.fault(FaultCode::BadParameters, list.place)?;
     }
@@ -126,7 +138,7 @@ fn params(
     let mut number = 0usize;
     for p in &list.items {
         if names && is_lone_name(list, number) {
-            waiting += 1;
+            waiting = waiting.saturating_add(1);
         } else {
             let t = operand(c, &p.ty, NOTHING)?;
             let t = wanted_type(c, t, false)?;
@@ -138,10 +150,11 @@ fn params(
             waiting = 0;
             types.push(t)?;
         }
-        number += 1;
+        number = number.saturating_add(1);
     }
-    if let Some(out) = variadic {
-        *out = varies;
+    if good {
+        Ok(Some((types, varies)))
+    } else {
+        Ok(None)
     }
-    if good { Ok(Some(types)) } else { Ok(None) }
 }
