@@ -37,12 +37,12 @@ pub fn stored_runs(alloc: Global, case: &Case, files: &TreeFiles) -> Result<(), 
 
 /// The program of a case of `run` is also built, and the script that is stored does what the case says.
 pub fn built_runs(alloc: Global, case: &Case, words: &[Text], run: &Called) -> Result<(), Failed> {
-    if !is_built(words) {
+    let Some(others) = words_of_run(words) else {
         return Ok(());
-    }
+    };
     let mut build = Vec::new(alloc);
     build.push(Text::from_slice(alloc, b"build")?)?;
-    for word in &words[1..] {
+    for word in others {
         build.push(word.clone()?)?;
     }
     let mut files = files_of(alloc, case, b"", 0)?;
@@ -64,18 +64,20 @@ pub fn built_runs(alloc: Global, case: &Case, words: &[Text], run: &Called) -> R
     }
 }
 
-// Whether words ask for a run that has neither a seed nor a budget.
-fn is_built(words: &[Text]) -> bool {
-    match words.first() {
-        Some(word) if word.as_bytes() == b"run".as_slice() => {}
-        _ => return false,
+// The words after `run`, of a run that has neither a seed nor a budget.
+fn words_of_run(words: &[Text]) -> Option<&[Text]> {
+    let [command, others @ ..] = words else {
+        return None;
+    };
+    if command.as_bytes() != b"run".as_slice() {
+        return None;
     }
-    for word in words {
+    for word in others {
         if word.as_bytes().starts_with(b"--seed") || word.as_bytes().starts_with(b"--steps") {
-            return false;
+            return None;
         }
     }
-    true
+    Some(others)
 }
 
 fn read_back(alloc: Global, text: &[u8]) -> Result<Script, Failed> {

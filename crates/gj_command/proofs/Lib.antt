@@ -4,3 +4,4 @@ pub mod FileLemmas
 pub mod PlaceLemmas
 pub mod TopLemmas
 pub mod BuildLemmas
+pub mod CommandLemmas

@@ -130,11 +130,11 @@ completes one settings folder answer line old new named built = λ other named_t
     memory (Some tree) = λ program holds reads stores. inr refl
 
     never : (a : Outcome) → ((tree : Tree) (program : CoreProgram) → old.tree ≡ Some tree → HoldsProgram tree folder program → (Rose old.reading_faults new.reading_faults → ⊥) → (Rose old.storing_faults new.storing_faults → ⊥) → ⊥) → Goal old.tree folder a
-    never a no = in_tree old.tree refl
+    never a refutes = in_tree old.tree refl
       where
         in_tree : (o : Option Tree) → old.tree ≡ o → Goal o folder a
         in_tree None is = tt
-        in_tree (Some tree) is = λ program holds reads stores. absurd (no tree program is holds reads stores)
+        in_tree (Some tree) is = λ program holds reads stores. absurd (refutes tree program is holds reads stores)
 
     beyond : (a : Outcome) → IsBeyond folder old → Goal old.tree folder a
     beyond a is = never a (λ tree program told holds reads stores. not_beyond one tree folder program old told holds is)

@@ -1,29 +1,20 @@
 -- What the commands come to; only private clauses cite this file.
+use Rattle.std.specs.Prelude.{◌≡◌, ◌≢◌, List, ℕ, Result, Ok, Err}
+use Rattle.gj_base.specs.Sink.{SinkState}
+use Rattle.gj_base.specs.declared.files.FileError.{FileError}
+use Rattle.gj_base.specs.declared.files.FileError.TheVariants as file_error
+use Rattle.gj_command.specs.Told.{Told}
 use Rattle.gj_command.specs.declared.outcome.Outcome.{Outcome}
-use Rattle.gj_command.specs.declared.outcome.Outcome.TheVariants.{Done, Ended, Fault, Usage, ReadFault, WriteFault, TooLong, BadScript, Stuck, Stopped, NoMemory, Internal}
+use Rattle.gj_command.specs.declared.outcome.Outcome.TheVariants as outcome
 
--- output was written, or not
-abbrev pub IsWritten : Outcome → Type 0
-IsWritten Done = Unit {0}
-IsWritten WriteFault = Unit {0}
-IsWritten NoMemory = Unit {0}
-IsWritten _ = ⊥
+-- what comes of a script, and that it is told; where it is stuck nothing is told
+abbrev pub RunTells : Result Outcome ℕ → SinkState → SinkState → Type 0
+RunTells (Ok answer) old new = (line : List ℕ) × (answer ≢ outcome.Usage) × Told line old new
+RunTells (Err place) old new = new ≡ old
 
--- a script was run
-abbrev pub IsRun : Outcome → Type 0
-IsRun (Ended code) = Unit {0}
-IsRun (Stopped steps) = Unit {0}
-IsRun (Stuck place) = Unit {0}
-IsRun WriteFault = Unit {0}
-IsRun NoMemory = Unit {0}
-IsRun _ = ⊥
-
--- a script that was read was run, or is none
-abbrev pub IsExecuted : Outcome → Type 0
-IsExecuted (BadScript place) = Unit {0}
-IsExecuted answer = IsRun answer
-
--- a program was made and run
-abbrev pub IsGenerated : Outcome → Type 0
-IsGenerated Usage = ⊥
-IsGenerated _ = Unit {0}
+-- what comes of a script that wasn't read
+abbrev pub IsUnread : FileError → Outcome → Type 0
+IsUnread file_error.Missing answer = answer ≡ outcome.ReadFault
+IsUnread file_error.Failed answer = answer ≡ outcome.ReadFault
+IsUnread file_error.TooLong answer = answer ≡ outcome.TooLong
+IsUnread file_error.NoMemory answer = answer ≡ outcome.NoMemory

@@ -3,7 +3,7 @@
 ghost use Rattle.std.specs.Prelude.{◌≡◌, ◌≢◌, ◌≤◌, List, ℕ, length};
 ghost use Rattle.gj_words.specs.Words.{most_steps};
 ghost use Rattle.gj_command.specs.Headline.{Leaves};
-ghost use Rattle.gj_command.specs.Commands.{IsExecuted};
+ghost use Rattle.gj_command.specs.Commands.{IsUnread};
 ghost use Rattle.gj_command.specs.Told.{Told};
 ghost use Rattle.gj_command.specs.declared.outcome.Outcome.TheVariants.{Usage};
 
@@ -14,6 +14,7 @@ use crate::run::run_script;
 use gj_base::{FileError, Files, Sink};
 use gj_words::Budget;
 use js_read::{ReadRefusal, read};
+use js_tree::Script;
 use std::alloc::Global;
 
 /// The most bytes of a script.
@@ -33,16 +34,26 @@ pub fn exec<F: Files, O: Sink, E: Sink>(
 {
     match files.read(alloc, file, SCRIPT_LIMIT) {
         Ok(bytes) => exec_bytes(alloc, bytes.as_slice(), budget, out, err),
-        Err(FileError::TooLong) => {
-            tell(err, &[TOO_LONG]);
-            Outcome::TooLong
-        }
-        Err(FileError::NoMemory) => out_of_memory(err),
-        Err(_) => read_failed(err),
+        Err(error) => unread(error, err),
     }
 }
 
-// Runs the script that these bytes are.
+/// Tells why a script wasn't read.
+fn unread<E: Sink>(error: FileError, err: &mut E) -> Outcome
+    ensures { (line : List ℕ) × IsUnread error result × (result ≢ Usage) × Told line (E.state err.old) (E.state err.new) }
+{
+    match error {
+        FileError::Missing => read_failed(err),
+        FileError::Failed => read_failed(err),
+        FileError::TooLong => {
+            tell(err, &[TOO_LONG]);
+            Outcome::TooLong
+        }
+        FileError::NoMemory => out_of_memory(err),
+    }
+}
+
+/// Runs the script that these bytes are.
 fn exec_bytes<O: Sink, E: Sink>(
     alloc: Global,
     bytes: &[u8],
@@ -52,20 +63,34 @@ fn exec_bytes<O: Sink, E: Sink>(
 ) -> Outcome
     requires size { length bytes.now ≤ 1073741824 }
     requires steps { budget.steps ≤ most_steps }
-    ensures { (line : List ℕ) × IsExecuted result × Told line (E.state err.old) (E.state err.new) }
+    ensures { (line : List ℕ) × (result ≢ Usage) × Told line (E.state err.old) (E.state err.new) }
 {
     match read(alloc, bytes) {
-        Ok(script) => match run_script(alloc, &script, budget, out, err) {
-            Outcome::Stuck(at) => {
-                tell_stuck(at, err);
-                Outcome::Stuck(at)
-            }
-            outcome => outcome,
-        },
+        Ok(script) => exec_script(alloc, &script, budget, out, err),
         Err(ReadRefusal::Syntax(at)) => {
             tell_bad_script(at, err);
             Outcome::BadScript(at)
         }
         Err(ReadRefusal::NoMemory) => out_of_memory(err),
+    }
+}
+
+/// Runs a script that was read.
+fn exec_script<O: Sink, E: Sink>(
+    alloc: Global,
+    script: &Script,
+    budget: Budget,
+    out: &mut O,
+    err: &mut E,
+) -> Outcome
+    requires { budget.steps ≤ most_steps }
+    ensures { (line : List ℕ) × (result ≢ Usage) × Told line (E.state err.old) (E.state err.new) }
+{
+    match run_script(alloc, script, budget, out, err) {
+        Ok(outcome) => outcome,
+        Err(at) => {
+            tell_stuck(at, err);
+            Outcome::Stuck(at)
+        }
     }
 }

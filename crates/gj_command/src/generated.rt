@@ -2,17 +2,17 @@
 
 ghost use Rattle.std.specs.Prelude.{◌≡◌, ◌≢◌, ◌≤◌, List, ℕ};
 ghost use Rattle.gj_words.specs.Words.{most_size};
-ghost use Rattle.gj_command.specs.Commands.{IsGenerated, IsWritten};
 ghost use Rattle.gj_command.specs.Told.{Told};
 ghost use Rattle.gj_command.specs.declared.outcome.Outcome.TheVariants.{Usage};
 
 use crate::outcome::Outcome;
-use crate::refusal::{internal, out_of_memory, refuse, write_failed};
-use crate::run::run_script;
-use gj_base::{NoMemory, Sink, SinkError, Text, TreeFiles, VecSink};
+use crate::refusal::{internal, out_of_memory, refuse, written};
+use crate::report::tell_stopped;
+use gj_base::{NoMemory, SeedChoices, Sink, SinkError, Text, TreeFiles, VecSink};
 use gj_compile::compile;
-use gj_words::Budget;
 use itoa::Buffer;
+use js_run::RunEnd;
+use js_tree::Script;
 use std::alloc::Global;
 
 const SEED: u64 = 1;
@@ -23,46 +23,44 @@ const STEPS: u64 = 1000000000;
 /// bytes it prints, the last line, and its status.
 pub fn generated<O: Sink, E: Sink>(alloc: Global, size: u32, out: &mut O, err: &mut E) -> Outcome
     requires { size ≤ most_size }
-    ensures { (line : List ℕ) × IsGenerated result × Told line (E.state err.old) (E.state err.new) }
+    ensures { (line : List ℕ) × (result ≢ Usage) × Told line (E.state err.old) (E.state err.new) }
 {
     let Ok(mut files) = files_of(alloc, size) else {
         return out_of_memory(err);
     };
     match compile(alloc, "app", "src", &mut files) {
-        Ok(script) => {
-            let mut printed = VecSink::new(alloc);
-            let budget = Budget {
-                seed: SEED,
-                steps: STEPS,
-            };
-            match run_script(alloc, &script, budget, &mut printed, err) {
-                Outcome::Ended(status) => told(size, printed.bytes(), status, out, err),
-                Outcome::Stuck(_) => internal(err),
-                outcome => outcome,
-            }
-        }
+        Ok(script) => run_generated(alloc, &script, size, out, err),
         Err(refused) => refuse(alloc, refused, err),
     }
 }
 
-// The four lines of a run.
-fn told<O: Sink, E: Sink>(
+// Runs the script of the program. What it prints is kept in memory.
+fn run_generated<O: Sink, E: Sink>(
+    alloc: Global,
+    script: &Script,
     size: u32,
-    printed: &[u8],
-    status: u8,
     out: &mut O,
     err: &mut E,
 ) -> Outcome
     requires { size ≤ most_size }
-    ensures { (line : List ℕ) × IsWritten result × Told line (E.state err.old) (E.state err.new) }
+    ensures { (line : List ℕ) × (result ≢ Usage) × Told line (E.state err.old) (E.state err.new) }
 {
-    match tell_run(size, printed, status, out) {
-        Ok(()) => Outcome::Done,
-        Err(SinkError::Failed) => write_failed(err),
-        Err(SinkError::NoMemory) => out_of_memory(err),
+    let mut choices = SeedChoices::new(SEED);
+    let mut printed = VecSink::new(alloc);
+    match js_run::run(alloc, script, &mut choices, &mut printed, STEPS) {
+        Ok(RunEnd::Ended(status, _)) => {
+            written(tell_run(size, printed.bytes(), status, out), err)
+        }
+        Ok(RunEnd::Stopped) => {
+            tell_stopped(STEPS, err);
+            Outcome::Stopped(STEPS)
+        }
+        Ok(RunEnd::Stuck(_)) => internal(err),
+        Err(_) => out_of_memory(err),
     }
 }
 
+// The four lines of a run.
 fn tell_run<O: Sink>(size: u32, printed: &[u8], status: u8, out: &mut O) -> Result<(), SinkError>
     requires { size ≤ most_size }
 {
@@ -83,17 +81,17 @@ fn tell_number<O: Sink>(name: &[u8], number: u64, out: &mut O) -> Result<(), Sin
 
 // The last line, without its newline.
 fn last_line(printed: &[u8]) -> &[u8] {
-    let mut start = 0;
-    let mut end = printed.len();
-    if printed.last() == Some(&b'\n') {
-        end = printed.len() - 1;
-    }
-    for (place, byte) in printed.iter().enumerate() {
-        if *byte == b'\n' && place < end {
-            start = place + 1;
+    let text = match printed.strip_suffix(b"\n") {
+        Some(text) => text,
+        None => printed,
+    };
+    let mut line = text;
+    for (place, byte) in text.iter().enumerate() {
+        if *byte == b'\n' {
+            line = &text[place + 1..];
         }
     }
-    &printed[start..end]
+    line
 }
 
 // The folder of the program.

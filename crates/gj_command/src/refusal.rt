@@ -1,6 +1,6 @@
 //! What a user is told where a command did not do its work.
 
-ghost use Rattle.std.specs.Prelude.{◌≡◌, ◌≤◌, All, List, ℕ, length};
+ghost use Rattle.std.specs.Prelude.{◌≡◌, ◌≢◌, ◌≤◌, All, List, ℕ, length, true};
 ghost use Rattle.go_load.specs.Root.{file_limit};
 ghost use Rattle.gj_command.specs.Headline.{IsToldBeyond, IsToldOf, out_of_memory_line, write_failed_line, read_failed_line, internal_line};
 ghost use Rattle.gj_command.specs.Refusals.{CanBeTold};
@@ -10,10 +10,10 @@ ghost use Rattle.gj_compile.specs.declared.refused.Refused.TheVariants as refuse
 
 use crate::outcome::Outcome;
 use crate::report;
-use crate::report::{fault_text, tell, tell_at, tell_whole};
-use gj_base::{Fault, Sink};
+use crate::report::{fault_text, tell, tell_at, tell_named, whole_name};
+use gj_base::{Fault, Sink, SinkError};
 use gj_compile::Refused;
-use go_load::Sources;
+use go_load::{FileEntry, Sources};
 use std::alloc::Global;
 
 /// The most bytes of a file that is read.
@@ -53,6 +53,17 @@ pub fn internal<E: Sink>(err: &mut E) -> Outcome
 {
     tell(err, &[report::INTERNAL]);
     Outcome::Internal
+}
+
+/// What comes of output that was written, or not.
+pub fn written<E: Sink>(output: Result<(), SinkError>, err: &mut E) -> Outcome
+    ensures { (line : List ℕ) × (result ≢ outcome.Usage) × Told line (E.state err.old) (E.state err.new) }
+{
+    match output {
+        Ok(()) => Outcome::Done,
+        Err(SinkError::Failed) => write_failed(err),
+        Err(SinkError::NoMemory) => out_of_memory(err),
+    }
 }
 
 /// Tells why a folder has no script.
@@ -95,20 +106,31 @@ fn refuse_fault<E: Sink>(alloc: Global, fault: Fault, sources: &Sources, err: &m
 fn refuse_beyond<E: Sink>(alloc: Global, fault: Fault, sources: &Sources, err: &mut E) -> Outcome
     ensures { (line : List ℕ) × IsToldBeyond result line × Told line (E.state err.old) (E.state err.new) }
 {
+    let number = fault.place.file as usize;
+    if number >= sources.as_slice().len() {
+        return internal(err);
+    }
+    let entry = &sources.as_slice()[number];
+    if !is_short(entry) {
+        return internal(err);
+    }
     let Ok(text) = fault_text(alloc, &fault) else {
         return out_of_memory(err);
     };
-    let place = fault.place;
-    let Some(entry) = sources.as_slice().get(place.file as usize) else {
-        return internal(err);
+    let Ok(name) = whole_name(alloc, entry) else {
+        return out_of_memory(err);
     };
-    if entry.bytes.as_bytes().len() > FILE_LIMIT {
-        return internal(err);
-    }
-    tell_whole(entry, place.offset, text.as_bytes(), err);
+    tell_named(&name, entry, fault.place.offset, &text, err);
     Outcome::Fault(Fault {
-        place,
+        place: fault.place,
         code: fault.code,
         text,
     })
+}
+
+/// Whether a file keeps the limit.
+fn is_short(entry: &FileEntry) -> bool
+    ensures { result ≡ true → length entry.now.bytes ≤ file_limit }
+{
+    entry.bytes.as_bytes().len() <= FILE_LIMIT
 }

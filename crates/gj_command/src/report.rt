@@ -1,6 +1,6 @@
 //! What a user is told, in one table: the lines for the error sink.
 
-ghost use Rattle.std.specs.Prelude.{◌≡◌, ◌≤◌, IfOk, flat_map, length};
+ghost use Rattle.std.specs.Prelude.{◌≡◌, ◌≤◌, List, ℕ, IfOk, flat_map, length};
 ghost use Rattle.gj_base.specs.LineColumn.{line_and_column};
 ghost use Rattle.go_load.specs.Root.{file_limit};
 ghost use Rattle.gj_command.specs.FaultText.{of_text, of_constants, of_expressions, of_types, of_statements, sentence, ending, fault_text, line_of, line_at, slash_after, whole_name};
@@ -247,24 +247,27 @@ fn place_in(bytes: &[u8], offset: u32) -> (u32, u32)
     line_col(bytes, size)
 }
 
-/// Tells this whole text of a place in a file, which is named with the path of its package.
-pub fn tell_whole<E: Sink>(entry: &FileEntry, offset: u32, text: &[u8], err: &mut E)
-    requires { length entry.now.bytes ≤ file_limit }
-    ensures { Told (line_at (whole_name entry.now) (line_and_column entry.now.bytes offset) text.now) (E.state err.old) (E.state err.new) }
+/// The name of a file with the path of its package.
+pub fn whole_name(alloc: Global, entry: &FileEntry) -> Result<Text, NoMemory>
+    ensures { IfOk result (λ text. text ≡ whole_name entry.now) }
 {
-    let (line, column) = place_in(entry.bytes.as_bytes(), offset);
-    let mut line_digits = Buffer::new();
-    let mut column_digits = Buffer::new();
-    let line = line_digits.format(line).as_bytes();
-    let column = column_digits.format(column).as_bytes();
-    let path = entry.path.as_bytes();
-    let slash = slash_after(path);
-    let name = entry.name.as_bytes();
-    tell(
+    let mut name = Text::from_slice(alloc, entry.path.as_bytes())?;
+    name.push_bytes(slash_after(entry.path.as_bytes()))?;
+    name.push_bytes(entry.name.as_bytes())?;
+    Ok(name)
+}
+
+/// Tells this text of a place in a file, which is named so.
+pub fn tell_named<E: Sink>(name: &Text, entry: &FileEntry, offset: u32, text: &Text, err: &mut E)
+    requires { length entry.now.bytes ≤ file_limit }
+    ensures { Told (line_at name.now (line_and_column entry.now.bytes offset) text.now) (E.state err.old) (E.state err.new) }
+{
+    tell_in(
+        name.as_bytes(),
+        entry.bytes.as_bytes(),
+        offset,
+        text.as_bytes(),
         err,
-        &[
-            path, slash, name, b":", line, b":", column, b": ", text, b"\n",
-        ],
     );
 }
 
@@ -290,21 +293,27 @@ pub fn tell<E: Sink>(err: &mut E, pieces: &[&[u8]])
 }
 
 /// Tells that a run was stopped after so many steps.
-pub fn tell_stopped<E: Sink>(steps: u64, err: &mut E) {
+pub fn tell_stopped<E: Sink>(steps: u64, err: &mut E)
+    ensures { (line : List ℕ) × Told line (E.state err.old) (E.state err.new) }
+{
     let mut digits = Buffer::new();
     let steps = digits.format(steps).as_bytes();
     tell(err, &[b"gopherjs: stopped after ", steps, b" steps\n"]);
 }
 
 /// Tells that bytes are no script.
-pub fn tell_bad_script<E: Sink>(at: u32, err: &mut E) {
+pub fn tell_bad_script<E: Sink>(at: u32, err: &mut E)
+    ensures { (line : List ℕ) × Told line (E.state err.old) (E.state err.new) }
+{
     let mut digits = Buffer::new();
     let at = digits.format(at).as_bytes();
     tell(err, &[b"gopherjs: bad script at byte ", at, b"\n"]);
 }
 
 /// Tells that a script's operation has no meaning.
-pub fn tell_stuck<E: Sink>(at: u32, err: &mut E) {
+pub fn tell_stuck<E: Sink>(at: u32, err: &mut E)
+    ensures { (line : List ℕ) × Told line (E.state err.old) (E.state err.new) }
+{
     let mut digits = Buffer::new();
     let at = digits.format(at).as_bytes();
     tell(err, &[b"gopherjs: script stuck at byte ", at, b"\n"]);

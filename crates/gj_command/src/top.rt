@@ -5,7 +5,6 @@ ghost use Rattle.gj_words.specs.Words.{IsWithinLimits};
 ghost use Rattle.gj_command.specs.Settings.{settings_of, build};
 ghost use Rattle.gj_command.specs.Told.{Told};
 ghost use Rattle.gj_command.specs.Headline.{Answers, Headline, IsComplete, CountsStay, Leaves, TellsUsage, TreeStays};
-ghost use Rattle.gj_command.specs.Commands.{IsWritten};
 ghost use Rattle.gj_command.specs.declared.outcome.Outcome.TheVariants.{Usage};
 
 use crate::blocking::blocking;
@@ -13,11 +12,11 @@ use crate::build::{OUT_FILE, SOURCE_FOLDER, build};
 use crate::exec::exec;
 use crate::generated::generated;
 use crate::outcome::Outcome;
-use crate::refusal::{out_of_memory, write_failed};
+use crate::refusal::{out_of_memory, written};
 use crate::report::{USAGE, VERSION, tell};
 use crate::run::run;
 use crate::words::folder_of;
-use gj_base::{Files, Sink, SinkError};
+use gj_base::{Files, Sink};
 use gj_words::{NoSettings, Settings, read_words};
 use go_grammar::laws::derives_one_file;
 use std::alloc::Global;
@@ -103,11 +102,7 @@ fn perform<F: Files, O: Sink, E: Sink>(
 }
 
 fn version<O: Sink, E: Sink>(out: &mut O, err: &mut E) -> Outcome
-    ensures { (line : List ℕ) × IsWritten result × Told line (E.state err.old) (E.state err.new) }
+    ensures { (line : List ℕ) × (result ≢ Usage) × Told line (E.state err.old) (E.state err.new) }
 {
-    match out.write(VERSION) {
-        Ok(()) => Outcome::Done,
-        Err(SinkError::Failed) => write_failed(err),
-        Err(SinkError::NoMemory) => out_of_memory(err),
-    }
+    written(out.write(VERSION), err)
 }

@@ -30,7 +30,8 @@ use Rattle.gj_plain.specs.Plain as p
 use Rattle.gj_plain.specs.Plain.{plain_main, main_in}
 use Rattle.go_stmt.specs.Checks.{root_trees, IsProgramOf}
 use Rattle.gj_compile.specs.Answers.{HaveTrees, HoldsProgram, IsToldFault, unbuilt_fault, IsBeyond, IsChecked, Fronts, Compiles}
-use Rattle.gj_compile.specs.Fronts.{decls_in, main_of, IsHeld, IsLeastOf, IsUnbuilt, AreBeyond, FrontsPackages, GoesOn, Imports, FrontsUnloaded, Scripts}
+use Rattle.go_import.specs.Left.{Leaves}
+use Rattle.gj_compile.specs.Fronts.{decls_in, main_of, IsHeld, IsLeastOf, IsUnbuilt, AreBeyond, FrontsPackages, GoesOn, Imports, IsUnloaded, FrontsUnloaded, Scripts}
 use Rattle.gj_compile.specs.declared.front.Checked.{Checked}
 use Rattle.gj_compile.specs.declared.refused.Refused.{Refused}
 use Rattle.gj_compile.specs.declared.refused.Refused.TheVariants as refused
@@ -88,20 +89,20 @@ checked law packages c right of asked = by c.is_plain refl
     by true is_plain = inl (is_plain, prints_alone law packages c.program of (sym asked ∙ is_plain), held packages c.program right of (sym asked ∙ is_plain))
     by false unlike = inr (unlike, record { fault = unbuilt_fault; why = inr (right, none_plain packages (sym asked ∙ unlike), refl); unbuilt = refl })
 
--- what comes of packages beyond the proved checker
-pub goes_on : (r : Result Checked Refused) (packages : Packages) (fault : Fault) → IsLeastOf (decls_in packages) fault → fault.code ≡ 0 → GoesOn r → FrontsPackages r packages
-goes_on r packages fault least unbuilt goes = by r goes
-  where
-    beyond : AreBeyond packages
-    beyond = record { fault = fault; why = inl least; unbuilt = unbuilt }
+-- what comes of packages that were read with their imports
+pub imported : (r : Result Checked Refused) (old new : FilesState) → new ≡ old → GoesOn r → Imports r old new
+imported (Ok c) old new same goes = (goes, same)
+imported (Err (refused.Fault fault entries)) old new same goes = absurd goes
+imported (Err (refused.Beyond fault entries)) old new same goes = same
+imported (Err refused.ReadFault) old new same goes = absurd goes
+imported (Err refused.NoMemory) old new same goes = same
+imported (Err refused.Internal) old new same goes = absurd goes
 
-    by : (r : Result Checked Refused) → GoesOn r → FrontsPackages r packages
-    by (Ok c) goes = inr (goes, beyond)
-    by (Err (refused.Fault f entries)) goes = absurd goes
-    by (Err (refused.Beyond f entries)) goes = beyond
-    by (Err refused.ReadFault) goes = absurd goes
-    by (Err refused.NoMemory) goes = tt
-    by (Err refused.Internal) goes = absurd goes
+-- and of a folder that has none
+pub not_imported : (refusal : LoadRefusal) (why : Refused) (old new : FilesState) → IsUnloaded refusal why → Leaves {Packages} (Err refusal) old new → Imports (Err why) old new
+not_imported (load.Fault fault entries) why old new is left = subst (λ (r : Refused). Imports (Err r) old new) (sym is) left
+not_imported load.ReadFault why old new is left = subst (λ (r : Refused). Imports (Err r) old new) (sym is) left
+not_imported load.NoMemory why old new is left = subst (λ (r : Refused). Imports (Err r) old new) (sym is) left
 
 -- the folder holds the program of its package
 holds : (o : Option Tree) (folder : List ℕ) (packages : Packages) (program : CoreProgram) → 0 < length packages.files → IsRead o folder packages.files → ArePackages packages → IsHeld packages program
@@ -129,7 +130,7 @@ told_of packages entries fault have (inr unbuilt) =
 -- what comes of the packages of a folder
 pub fronts : (r : Result Checked Refused) (folder : List ℕ) (packages : Packages) (old new : FilesState) → new ≡ old → 0 < length packages.files → IsRead old.tree folder packages.files → ArePackages packages → FrontsPackages r packages
     → Fronts r folder old new
-fronts r folder packages old new same some read are fronts = by r fronts
+fronts r folder packages old new same some read are comes = by r comes
   where
     have : HaveTrees packages.files (root_trees (paths_view packages.packages))
     have = have_trees packages some are

@@ -122,3 +122,8 @@ IsRight s folder old = IfSome old.tree (λ tree. (program : CoreProgram) × Hold
 abbrev pub Compiles : Result Script Refused → List ℕ → FilesState → FilesState → Type 0
 Compiles (Ok script) folder old new = (new ≡ old) × IsPrintable (script_view script) × IsRight (script_view script) folder old
 Compiles (Err refused) folder old new = IsRefused refused folder old new
+
+-- an answer without a script: the files stay as they are, or why there is none
+abbrev pub Asks : {T : Type 0} → Result T Refused → List ℕ → FilesState → FilesState → Type 0
+Asks (Ok x) folder old new = new ≡ old
+Asks (Err refused) folder old new = IsRefused refused folder old new

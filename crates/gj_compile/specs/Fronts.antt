@@ -88,6 +88,12 @@ Imports (Err refused.ReadFault) old new = FailsLater old new
 Imports (Err refused.NoMemory) old new = new ≡ old
 Imports (Err refused.Internal) old new = ⊥
 
+-- what a refusal of the loader of imports becomes
+abbrev pub IsUnloaded : LoadRefusal → Refused → Type 0
+IsUnloaded (load.Fault fault entries) why = why ≡ refused.Beyond fault entries
+IsUnloaded load.ReadFault why = why ≡ refused.ReadFault
+IsUnloaded load.NoMemory why = why ≡ refused.NoMemory
+
 -- what comes of a folder that the proved loader refuses
 abbrev pub FrontsUnloaded : Result Checked Refused → LoadRefusal → FilesState → FilesState → Type 0
 FrontsUnloaded r (load.Fault fault entries) old new =

@@ -7,7 +7,7 @@
 ghost use Rattle.std.specs.Prelude.{◌≡◌, [], ℕ, Err, IfOk, codes, drop, is_some, take, true};
 ghost use Rattle.go_packages.specs.Checked.{told};
 ghost use Rattle.go_stmt.specs.Checks.{Checks, IsProgramOf};
-ghost use Rattle.gj_compile.specs.Answers.{Fronts, NameImport};
+ghost use Rattle.gj_compile.specs.Answers.{Fronts, NameImport, NamesImport};
 ghost use Rattle.gj_compile.specs.Fronts.{decls_in, main_of, FrontsPackages, FrontsUnloaded};
 
 use crate::refused::Refused;
@@ -16,7 +16,7 @@ use gj_base::{Files, NoMemory, Refusal};
 use gj_plain::plain::plain_main;
 use go_core::program::Program;
 use go_lines::laws::plain;
-use go_load::{LoadRefusal, Packages, Sources, load};
+use go_load::{FileEntry, LoadRefusal, Packages, Sources, load};
 use go_stmt::{check, gone_program, root_files};
 use std::alloc::Global;
 
@@ -74,11 +74,18 @@ fn name_import(sources: &Sources) -> bool
     ensures { result ≡ true → NameImport sources.now }
 {
     for entry in sources.as_slice() {
-        if names_import(entry.bytes.as_bytes()) {
+        if entry_names_import(entry) {
             return true;
         }
     }
     false
+}
+
+/// Whether a file may import a package.
+fn entry_names_import(entry: &FileEntry) -> bool
+    ensures { result ≡ true → NamesImport entry.now }
+{
+    names_import(entry.bytes.as_bytes())
 }
 
 /// Whether the letters `import` stand somewhere in a text.
@@ -86,11 +93,18 @@ fn names_import(bytes: &[u8]) -> bool
     ensures { result ≡ true → (k : ℕ) × (take 6 (drop k bytes.now) ≡ codes "import") }
 {
     for place in 0..bytes.len() {
-        if bytes[place..].starts_with(b"import") {
+        if begins_import(&bytes[place..]) {
             return true;
         }
     }
     false
+}
+
+/// Whether a text begins with the letters `import`.
+fn begins_import(bytes: &[u8]) -> bool
+    ensures { result ≡ true → take 6 bytes.now ≡ codes "import" }
+{
+    bytes.starts_with(b"import")
 }
 
 /// Checks a root without imports.

@@ -1,5 +1,7 @@
 //! The functions of a program that may wait.
 
+ghost use Rattle.gj_compile.specs.Answers.{Asks};
+
 use crate::front::check_folder;
 use crate::refused::Refused;
 use gj_base::{Files, NoMemory, Text};
@@ -14,12 +16,17 @@ pub fn blocking_names<F: Files>(
     root: &str,
     src: &str,
     files: &mut F,
-) -> Result<Vec<Text>, Refused> {
+) -> Result<Vec<Text>, Refused>
+    ensures { Asks result root.now (F.state files.old) (F.state files.new) }
+{
     match check_folder(alloc, root, src, files) {
         Ok(checked) => {
             let names = marked_names(alloc, &checked.program);
             gone_program(checked.program);
-            Ok(names?)
+            match names {
+                Ok(names) => Ok(names),
+                Err(_) => Err(Refused::NoMemory),
+            }
         }
         Err(refused) => Err(refused),
     }

@@ -1,6 +1,6 @@
 //! The loader of imports and the checker of the whole profile.
 
-ghost use Rattle.gj_compile.specs.Fronts.{GoesOn, Imports};
+ghost use Rattle.gj_compile.specs.Fronts.{GoesOn, Imports, IsUnloaded};
 
 use crate::front::Checked;
 use crate::refused::{Refused, beyond};
@@ -21,9 +21,18 @@ pub fn check_imports<F: Files>(
 {
     match load_program(alloc, files, root, src) {
         Ok(packages) => check_whole(alloc, packages),
-        Err(LoadRefusal::Fault(fault, sources)) => Err(Refused::Beyond(fault, sources)),
-        Err(LoadRefusal::ReadFault) => Err(Refused::ReadFault),
-        Err(LoadRefusal::NoMemory) => Err(Refused::NoMemory),
+        Err(refusal) => Err(unloaded(refusal)),
+    }
+}
+
+/// What a refusal of the loader of imports becomes.
+fn unloaded(refusal: LoadRefusal) -> Refused
+    ensures { IsUnloaded refusal result }
+{
+    match refusal {
+        LoadRefusal::Fault(fault, sources) => Refused::Beyond(fault, sources),
+        LoadRefusal::ReadFault => Refused::ReadFault,
+        LoadRefusal::NoMemory => Refused::NoMemory,
     }
 }
 
