@@ -27,7 +27,7 @@ use Rattle.gj_compile.specs.Answers.{HoldsProgram, AreUnbuilt, AreFaulty, IsTold
 use Rattle.gj_compile.specs.declared.refused.Refused.{Refused}
 use Rattle.gj_compile.specs.declared.refused.Refused.TheVariants as refused
 use Rattle.gj_command.specs.Settings.{Settings, build}
-use Rattle.gj_command.specs.Headline.{out_file, BuildAnswers, CountsStay, Headline, IsComplete, IsToldBeyond, IsToldOf, Leaves, StoresScript, TreeStays}
+use Rattle.gj_command.specs.Headline.{out_file, Answers, BuildAnswers, CountsStay, Headline, IsComplete, IsToldBeyond, IsToldOf, Leaves, StoresScript, TellsUsage, TreeStays}
 use Rattle.gj_command.specs.FaultText.{fault_text, fault_line, line_at}
 use Rattle.gj_command.specs.Stored.{StoresAs}
 use Rattle.gj_command.specs.Told.{Told}
@@ -62,7 +62,7 @@ headline settings folder answer line old new named built = λ other named_too do
     by (Some tree) s text is (inr beyond) stored = (s, stored ∙ ap (λ (bytes : List ℕ). Some (with_file tree out_file bytes)) is, inr beyond)
 
     of_done : BuildAnswers Done line folder out_file false old new → Goal folder
-    of_done (stores, none) = by old.tree stores.0 stores.1 (stores.2.0 refl) stores.2.1 (ap (λ (s : FilesState). s.tree) stores.2.2)
+    of_done (stores, none) = by old.tree stores.0 stores.1 (stores.2 refl) stores.3 (ap (λ (s : FilesState). s.tree) stores.4)
 
 -- a folder of which a file was read has `.go` files
 never_empty : (tree : Tree) (folder : List ℕ) (entries : List FileEntry) → 0 < length entries → IsRead (Some tree) folder entries → AreGoFiles tree folder [] → ⊥
@@ -142,8 +142,8 @@ completes one settings folder answer line old new named built = λ other named_t
     by : (a : Outcome) → BuildAnswers a line folder out_file false old new → Goal old.tree folder a
     by Done built = done old.tree
     by (outcome.Fault fault) why = elim why [
-      | inl finds ↦ never (outcome.Fault fault) (λ tree program there holds reads stores. not_faulty one tree folder program finds.0 finds.1 holds (subst (λ (o : Option Tree). IsRead o folder finds.1) there finds.2.2.2.2) finds.2.2.2.3)
-      | inr other ↦ beyond (outcome.Fault fault) other.2.2
+      | inl finds ↦ never (outcome.Fault fault) (λ tree program there holds reads stores. not_faulty one tree folder program finds.0 finds.1 holds (subst (λ (o : Option Tree). IsRead o folder finds.1) there finds.4.2) finds.4.3)
+      | inr other ↦ beyond (outcome.Fault fault) other.3
     ]
     by outcome.ReadFault (why, told) = elim why [
       | inl fails ↦ elim fails [
@@ -152,7 +152,7 @@ completes one settings folder answer line old new named built = λ other named_t
       ]
       | inr later ↦ beyond outcome.ReadFault later.1
     ]
-    by outcome.WriteFault (fails, told) = never outcome.WriteFault (λ tree program there holds reads stores. stores fails.2.2.0)
+    by outcome.WriteFault (fails, told) = never outcome.WriteFault (λ tree program there holds reads stores. stores fails.4.0)
     by outcome.NoMemory built = memory old.tree
     by outcome.Internal (same, is, told) = beyond outcome.Internal is
     by (outcome.Ended code) none = absurd none
@@ -183,10 +183,10 @@ builds answer line s folder path small old mid new same right stored = by answer
 
 -- what a build leaves
 pub leaves : (answer : Outcome) (line folder path : List ℕ) (small : Bool) (old new : FilesState) → BuildAnswers answer line folder path small old new → Leaves answer old new
-leaves Done line folder path small old new (stores, none) = inr (path, stores.1, stores.2.2)
+leaves Done line folder path small old new (stores, none) = inr (path, stores.1, stores.4)
 leaves (outcome.Fault fault) line folder path small old new why = elim why [
-  | inl finds ↦ finds.2.2.2.0
-  | inr other ↦ other.2.1
+  | inl finds ↦ finds.4.0
+  | inr other ↦ other.2
 ]
 leaves outcome.ReadFault line folder path small old new (why, told) = elim why [
   | inl fails ↦ elim fails [
@@ -195,7 +195,7 @@ leaves outcome.ReadFault line folder path small old new (why, told) = elim why [
   ]
   | inr later ↦ later.0
 ]
-leaves outcome.WriteFault line folder path small old new (fails, told) = inr (path, fails.1, fails.2.2)
+leaves outcome.WriteFault line folder path small old new (fails, told) = inr (path, fails.1, fails.4)
 leaves outcome.NoMemory line folder path small old new (same, told) = same
 leaves outcome.Internal line folder path small old new (same, is, told) = same
 leaves (outcome.Ended code) line folder path small old new none = absurd none
@@ -269,3 +269,14 @@ told_at es fault entry text old new at inside is told =
   where
     no_entry : FileEntry
     no_entry = record { path = []; name = []; bytes = []; embedded = false; too_long = false }
+
+-- the answer of a plain build, and that of other words
+pub answers_build : (settings : Option Settings) (folder : List ℕ) (answer : Outcome) (line : List ℕ) (words : List (List ℕ)) (old new : FilesState) → settings ≡ Some (build folder) → BuildAnswers answer line folder out_file false old new
+    → Answers answer line settings words old new
+answers_build settings folder answer line words old new named built = subst (λ (s : Option Settings). Answers answer line s words old new) (sym named) built
+
+pub answers_other : (settings : Option Settings) (answer : Outcome) (line : List ℕ) (words : List (List ℕ)) (old new : FilesState) → settings ≡ None → Leaves answer old new → TellsUsage answer line words → Answers answer line settings words old new
+answers_other settings answer line words old new none left tells = subst (λ (s : Option Settings). Answers answer line s words old new) (sym none) (left, tells)
+
+pub none_some : (settings : Option Settings) (folder : List ℕ) → settings ≡ None → settings ≡ Some (build folder) → ⊥
+none_some settings folder none some = cc

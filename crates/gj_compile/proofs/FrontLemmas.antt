@@ -99,7 +99,7 @@ imported (Err refused.NoMemory) old new same goes = same
 imported (Err refused.Internal) old new same goes = absurd goes
 
 -- and of a folder that has none
-pub not_imported : (refusal : LoadRefusal) (why : Refused) (old new : FilesState) → IsUnloaded refusal why → Leaves {Packages} (Err refusal) old new → Imports (Err why) old new
+pub not_imported : (refusal : LoadRefusal) (why : Refused) (old new : FilesState) → IsUnloaded refusal why → Leaves {A = Packages} (Err refusal) old new → Imports (Err why) old new
 not_imported (load.Fault fault entries) why old new is left = subst (λ (r : Refused). Imports (Err r) old new) (sym is) left
 not_imported load.ReadFault why old new is left = subst (λ (r : Refused). Imports (Err r) old new) (sym is) left
 not_imported load.NoMemory why old new is left = subst (λ (r : Refused). Imports (Err r) old new) (sym is) left

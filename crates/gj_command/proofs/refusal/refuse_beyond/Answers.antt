@@ -14,6 +14,6 @@ returns g c =
     let count = ap length c.as_slice.ensures in (
       whole_line c.args.sources.now fault,
       (c.args.sources.now, refl),
-      told_whole_at c.args.sources.now fault entry c.in-Ok-2.name c.in-Ok.text (g.E.Sink.state c.args.err.now) (g.E.Sink.state c.tell_named.new.err)
-          (subst (λ (es : List FileEntry). entry ≡ get_or es fault.place.file entry) c.as_slice-2.ensures c.index-as_slice-number.is) (grind (arith, nat_tests, past, count)) c.in-Ok-2.ensures refl c.tell_named.ensures,
+      told_whole_at c.args.sources.now fault entry c.in-Ok-whole_name.name c.in-Ok.text (g.E.Sink.state c.args.err.now) (g.E.Sink.state c.tell_named.new.err)
+          (subst (λ (es : List FileEntry). entry ≡ get_or es fault.place.file entry) c.as_slice-2.ensures c.index-as_slice-number.is) (grind (arith, nat_tests, past, count)) c.in-Ok-whole_name.ensures refl c.tell_named.ensures,
     )
