@@ -11,6 +11,7 @@ use Rattle.gj_base.specs.declared.files.FileError.TheVariants as file_error
 use Rattle.go_load.specs.declared.sources.FileEntry.{FileEntry}
 use Rattle.gj_compile.specs.Answers.{IsRefused}
 use Rattle.gj_compile.specs.declared.refused.Refused.{Refused}
+use Rattle.gj_compile.specs.declared.refused.Refused.TheVariants as refused
 use Rattle.gj_command.specs.Headline.{BuildAnswers, IsToldOf, Leaves}
 use Rattle.gj_command.specs.Commands.{IsUnread}
 use Rattle.gj_command.specs.FaultText.{line_at, whole_line, whole_name}
@@ -50,9 +51,21 @@ built_is_no_usage answer line folder path small old new built named = subst (λ 
 
 -- what is told of a folder that has no script leaves the files, and is no usage
 pub refused_leaves : (refused : Refused) (answer : Outcome) (line folder : List ℕ) (old new : FilesState) → IsToldOf refused answer line → IsRefused refused folder old new → Leaves answer old new × (answer ≢ outcome.Usage)
-refused_leaves refused answer line folder old new told why =
-    let built = answers_of refused answer line folder [] false old new told why in
+refused_leaves refusal answer line folder old new told why =
+    let built = answers_of refusal answer line folder [] false old new told why in
     (leaves answer line folder [] false old new built, built_is_no_usage answer line folder [] false old new built)
+
+-- what is told of a folder that has no script is no usage
+pub told_is_no_usage : (refused : Refused) (answer : Outcome) (line : List ℕ) → IsToldOf refused answer line → answer ≢ outcome.Usage
+told_is_no_usage why answer line told named = by why (subst (λ (a : Outcome). IsToldOf why a line) named told)
+  where
+    by : (r : Refused) → IsToldOf r outcome.Usage line → ⊥
+    by refused.ReadFault (is, said) = cc
+    by refused.NoMemory (is, said) = cc
+    by refused.Internal (is, said) = cc
+    by (refused.Fault fault entries) (inl (is, said)) = cc
+    by (refused.Fault fault entries) (inr (is, said)) = cc
+    by (refused.Beyond fault entries) told = told
 
 -- a script that wasn't read leaves the files
 pub unread_leaves : (error : FileError) (answer : Outcome) (path : List ℕ) (limit : ℕ) (old new : FilesState) → IsUnread error answer → Reads (Err error) path limit old new → Leaves answer old new

@@ -1,5 +1,6 @@
 -- What can be told of a refusal; only private clauses cite this file.
-use Rattle.std.specs.Prelude.{◌≤◌, All, length}
+use Rattle.std.specs.Prelude.{◌≤◌, All, length, Result, Ok, Err}
+use Rattle.js_tree.specs.declared.tree.Script.{Script}
 use Rattle.go_load.specs.Root.{file_limit}
 use Rattle.gj_compile.specs.declared.refused.Refused.{Refused}
 use Rattle.gj_compile.specs.declared.refused.Refused.TheVariants as refused
@@ -11,3 +12,8 @@ CanBeTold (refused.Beyond fault entries) = Unit {0}
 CanBeTold refused.ReadFault = Unit {0}
 CanBeTold refused.NoMemory = Unit {0}
 CanBeTold refused.Internal = Unit {0}
+
+-- why there is no script can be told
+abbrev pub ErrCanBeTold : Result Script Refused → Type 0
+ErrCanBeTold (Ok script) = Unit {0}
+ErrCanBeTold (Err refused) = CanBeTold refused

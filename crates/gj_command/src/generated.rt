@@ -2,6 +2,7 @@
 
 ghost use Rattle.std.specs.Prelude.{◌≡◌, ◌≢◌, ◌≤◌, List, ℕ};
 ghost use Rattle.gj_words.specs.Words.{most_size};
+ghost use Rattle.gj_command.specs.Refusals.{ErrCanBeTold};
 ghost use Rattle.gj_command.specs.Told.{Told};
 ghost use Rattle.gj_command.specs.declared.outcome.Outcome.TheVariants.{Usage};
 
@@ -9,7 +10,7 @@ use crate::outcome::Outcome;
 use crate::refusal::{internal, out_of_memory, refuse, written};
 use crate::report::tell_stopped;
 use gj_base::{NoMemory, SeedChoices, Sink, SinkError, Text, TreeFiles, VecSink};
-use gj_compile::compile;
+use gj_compile::{Refused, compile};
 use itoa::Buffer;
 use js_run::RunEnd;
 use js_tree::Script;
@@ -25,13 +26,26 @@ pub fn generated<O: Sink, E: Sink>(alloc: Global, size: u32, out: &mut O, err: &
     requires { size ≤ most_size }
     ensures { (line : List ℕ) × (result ≢ Usage) × Told line (E.state err.old) (E.state err.new) }
 {
-    let Ok(mut files) = files_of(alloc, size) else {
-        return out_of_memory(err);
-    };
-    match compile(alloc, "app", "src", &mut files) {
+    match compiled(alloc, size) {
         Ok(script) => run_generated(alloc, &script, size, out, err),
         Err(refused) => refuse(alloc, refused, err),
     }
+}
+
+// The script of the program.
+fn compiled(alloc: Global, size: u32) -> Result<Script, Refused>
+    ensures { ErrCanBeTold result }
+{
+    match files_of(alloc, size) {
+        Ok(files) => compiled_files(alloc, files),
+        Err(_) => Err(Refused::NoMemory),
+    }
+}
+
+fn compiled_files(alloc: Global, mut files: TreeFiles) -> Result<Script, Refused>
+    ensures { ErrCanBeTold result }
+{
+    compile(alloc, "app", "src", &mut files)
 }
 
 // Runs the script of the program. What it prints is kept in memory.

@@ -1,4 +1,4 @@
-use Rattle.std.proofs.Common.{arith, ◌≡◌, ◌∙◌, List, ap, subst, refl, length, get_or}
+use Rattle.std.proofs.Common.{arith, ◌≡◌, List, ap, subst, refl, length, get_or}
 use Rattle.std.proofs.lemmas.Bool.Decides.{nat_tests}
 use Rattle.gj_base.specs.declared.fault.Fault.{Fault}
 use Rattle.go_load.specs.declared.sources.FileEntry.{FileEntry}
