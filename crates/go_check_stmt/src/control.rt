@@ -25,6 +25,14 @@ pub fn condition(c: &mut Checker, e: &Expr) -> Result<NodeId, NoMemory> {
     Ok(x.node)
 }
 
+/// The condition of a `for`, where it has one.
+pub fn maybe_condition(c: &mut Checker, e: &Option<Expr>) -> Result<Option<NodeId>, NoMemory> {
+    match e {
+        Some(e) => Ok(Some(condition(c, e)?)),
+        None => Ok(None),
+    }
+}
+
 /// `if init; x {} else {}`.
 pub fn if_row(
     c: &mut Checker,
