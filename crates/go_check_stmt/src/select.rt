@@ -160,10 +160,7 @@ pub fn communication(c: &mut Checker, s: &Stmt) -> Result<CommRow, NoMemory> {
 }
 
 /// The communication of a clause, where it isn't the default.
-pub fn maybe_communication(
-    c: &mut Checker,
-    s: &Option<Stmt>,
-) -> Result<Option<CommRow>, NoMemory> {
+pub fn maybe_communication(c: &mut Checker, s: &Option<Stmt>) -> Result<Option<CommRow>, NoMemory> {
     match s {
         Some(s) => Ok(Some(communication(c, s)?)),
         None => Ok(None),

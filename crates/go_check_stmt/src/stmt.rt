@@ -3,9 +3,7 @@
 //! One function goes over the tree; what it finds goes to the rows, which go over no statements.
 
 use crate::assign::{assign, assign_op, define, inc_dec};
-use crate::control::{
-    branch, condition, declares, if_row, loop_row, maybe_condition, return_stmt,
-};
+use crate::control::{branch, condition, declares, if_row, loop_row, maybe_condition, return_stmt};
 use crate::frame::Frame;
 use crate::hold::{both, nothing, sequence};
 use crate::local::decl;
@@ -115,11 +113,7 @@ fn before_test(c: &mut Checker, f: &mut Frame, s: &Option<Stmt>) -> Result<StmtI
 }
 
 #[cycle(statement)]
-fn otherwise(
-    c: &mut Checker,
-    f: &mut Frame,
-    s: &Option<Stmt>,
-) -> Result<Option<StmtId>, NoMemory> {
+fn otherwise(c: &mut Checker, f: &mut Frame, s: &Option<Stmt>) -> Result<Option<StmtId>, NoMemory> {
     match s {
         Some(s) => Ok(Some(stmt(c, f, s)?)),
         None => Ok(None),
@@ -145,7 +139,11 @@ fn if_form(c: &mut Checker, f: &mut Frame, s: &Stmt) -> Result<StmtId, NoMemory>
 
 // The last part of a `for`, which declares nothing.
 #[cycle(statement)]
-fn after_turn(c: &mut Checker, f: &mut Frame, s: &Option<Stmt>) -> Result<Option<StmtId>, NoMemory> {
+fn after_turn(
+    c: &mut Checker,
+    f: &mut Frame,
+    s: &Option<Stmt>,
+) -> Result<Option<StmtId>, NoMemory> {
     match s {
         Some(s) => {
             if declares(c, s)? {
