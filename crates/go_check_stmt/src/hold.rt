@@ -259,8 +259,8 @@ pub fn hold_place(
         }
     }
     let mut held = hold_base(c, parts, at, quiet)?;
-    while let Some(node) = outer.pop() {
-        held = hold_outer(c, parts, node, held, quiet)?;
+    for node in outer.iter().rev() {
+        held = hold_outer(c, parts, *node, held, quiet)?;
     }
     Ok(held)
 }
