@@ -4,7 +4,7 @@ use crate::hidden::hidden;
 use crate::limits::{tell_made, tell_written};
 use crate::promoted::method_rows;
 use gj_base::{Fault, NoMemory, Refusal};
-use go_check_core::{Beside, program};
+use go_check_core::{Beside, MethodSpec, program};
 use go_check_package::{FileRow, PackageRow, least};
 use go_check_state::state::FaultRow;
 use go_check_state::{Checker, Entity, MAIN};
@@ -14,30 +14,48 @@ use std::alloc::Global;
 
 /// The core program of packages, the root first; or their least fault of the types stage.
 pub fn check(alloc: Global, packages: &Packages) -> Result<Program, Refusal> {
-    let mut rows: Vec<PackageRow<'_>> = Vec::new(alloc);
-    let mut files: Vec<FileRow<'_>> = Vec::new(alloc);
-    gather(packages, &mut rows, &mut files)?;
     let mut c = Checker::new(alloc)?;
+    match checked(&mut c, packages) {
+        Ok(beside) => Ok(program(c, &beside)?),
+        Err(refusal) => Err(refusal),
+    }
+}
+
+// Checks packages; what their core program has beside the tables.
+fn checked(c: &mut Checker, packages: &Packages) -> Result<Beside, Refusal> {
+    let mut rows: Vec<PackageRow<'_>> = Vec::new(c.alloc);
+    let mut files: Vec<FileRow<'_>> = Vec::new(c.alloc);
+    gather(packages, &mut rows, &mut files)?;
     c.predeclare_all()?;
-    let hidden = hidden(&mut c)?;
-    let imports = go_check_package::check(&mut c, rows.as_slice(), files.as_slice())?;
-    tell_written(&mut c)?;
-    if let Some(row) = least(&c, files.as_slice())? {
-        return Err(refusal(&c, row)?);
-    }
-    let methods = method_rows(&mut c)?;
-    tell_made(&mut c)?;
-    if let Some(row) = c.faults.first().copied() {
-        return Err(refusal(&c, row)?);
-    }
-    let beside = Beside {
-        methods,
-        main: main_of(&c),
+    let hidden = hidden(c)?;
+    let imports = go_check_package::check(c, rows.as_slice(), files.as_slice())?;
+    tell_least(c, files.as_slice())?;
+    Ok(Beside {
+        methods: methods_of(c)?,
+        main: main_of(c),
         hidden,
         imports,
         packages: packages.packages.len(),
-    };
-    Ok(program(c, &beside)?)
+    })
+}
+
+// The least fault of what is written, if there is one.
+fn tell_least(c: &mut Checker, files: &[FileRow<'_>]) -> Result<(), Refusal> {
+    tell_written(c)?;
+    match least(c, files)? {
+        Some(row) => Err(refusal(c, row)?),
+        None => Ok(()),
+    }
+}
+
+// The rows of all methods, those that are made among them.
+fn methods_of(c: &mut Checker) -> Result<Vec<MethodSpec>, Refusal> {
+    let methods = method_rows(c)?;
+    tell_made(c)?;
+    match c.faults.first().copied() {
+        Some(row) => Err(refusal(c, row)?),
+        None => Ok(methods),
+    }
 }
 
 // The packages and their files, by number.
