@@ -1,13 +1,14 @@
 //! The state of a translation, for one function after another.
 
 use crate::frame::{BEGINNING, HEAD};
+use crate::slices::Slices;
 use go_core::node::{Var, VarId};
 use go_core::statement::Label;
 use go_core::tree::FuncId;
 use go_type::TypeTable;
 use go_type::types::TypeId;
 use js_facts::Facts;
-use js_pool::{Cases, ExprId, Mark, Name, Pool};
+use js_pool::{Block, Cases, ExprId, Mark, Name, Node, Pool, Stmt};
 
 /// What is known of a value before the script runs.
 #[derive(Clone, Copy, PartialEq, Eq)]
@@ -19,6 +20,8 @@ pub enum Known {
     Nil,
     /// A constant of another kind.
     Constant,
+    /// A variable of a plain function that isn't boxed: nothing but a statement's assignments changes it.
+    Variable,
 }
 
 /// A value on the stack: a temporary, whose number is that of its place there, or a constant.
@@ -60,9 +63,15 @@ pub struct Body<'p> {
     /// The results, in order, and whether calls are deferred.
     pub results: Vec<Home>,
     pub defers: bool,
-    /// Values, from the first one on; how many temporaries there are.
+    /// Whether a plain function mentions its results.
+    pub mentions_results: bool,
+    /// Values, from the first one on; how many temporaries there are, and which a plain function declared.
     pub stack: Vec<Operand>,
     pub temps: u32,
+    declared: Vec<bool>,
+    /// How many loops of a plain function are around, and what is known of slices in them.
+    pub loops: u32,
+    pub slices: Slices,
     /// The labels around.
     pub exits: Vec<Exits>,
     pub next_case: u32,
@@ -73,6 +82,14 @@ pub struct Body<'p> {
     pub first_case: Mark,
     /// So many numbers of arguments have adapters, from none on: frames that call a plain function.
     pub adapters: u32,
+}
+
+// Whether a name is that of the temporary at a place of the stack.
+fn is_temp(x: Name, place: usize) -> bool {
+    match x {
+        Name::Numbered(word, k) => k as usize == place && *word == *b"$t".as_slice(),
+        _ => false,
+    }
 }
 
 impl<'p> Body<'p> {
@@ -89,8 +106,12 @@ impl<'p> Body<'p> {
             slots: Vec::new(alloc),
             results: Vec::new(alloc),
             defers: false,
+            mentions_results: false,
             stack: Vec::new(alloc),
             temps: 0,
+            declared: Vec::new(alloc),
+            loops: 0,
+            slices: Slices::new(alloc),
             exits: Vec::new(alloc),
             next_case: BEGINNING + 1,
             next_slot: HEAD,
@@ -114,8 +135,11 @@ impl<'p> Body<'p> {
         self.func = None;
         self.results.truncate(0);
         self.defers = false;
+        self.mentions_results = false;
         self.stack.truncate(0);
         self.temps = 0;
+        self.declared.truncate(0);
+        self.loops = 0;
         self.exits.truncate(0);
         self.next_case = BEGINNING + 1;
         self.next_slot = HEAD;
@@ -223,9 +247,19 @@ impl<'p> Body<'p> {
         self.pool.name(b"$f")
     }
 
+    // Notes that a slot is mentioned.
+    fn mention(&mut self, n: u32) {
+        for h in self.results.as_slice() {
+            if h.slot == n {
+                self.mentions_results = true;
+            }
+        }
+    }
+
     /// What stands in a slot.
     pub fn slot(&mut self, n: u32) -> ExprId {
         if self.plain {
+            self.mention(n);
             return self.pool.name_of(b"$v", n);
         }
         let f = self.frame();
@@ -235,11 +269,21 @@ impl<'p> Body<'p> {
     /// Sets a slot.
     pub fn set_slot(&mut self, n: u32, e: ExprId) {
         if self.plain {
+            self.mention(n);
             self.pool.assign(Name::Numbered(b"$v", n), e);
             return;
         }
         let f = self.frame();
         self.pool.store_at(f, n as u64, e);
+    }
+
+    /// Sets a slot that nothing has set before: a plain function declares it there.
+    pub fn begin_slot(&mut self, n: u32, e: ExprId) {
+        if self.plain {
+            self.pool.declare(Name::Numbered(b"$v", n), e);
+            return;
+        }
+        self.set_slot(n, e);
     }
 
     // ---- values on the stack
@@ -255,21 +299,45 @@ impl<'p> Body<'p> {
         }
     }
 
-    // The temporary at a place of the stack.
-    fn temp(&mut self, place: usize) -> Name {
+    // Sets the temporary at a place of the stack, and gives its name.
+    fn set_temp(&mut self, place: usize, e: ExprId) -> ExprId {
         let k = if place < 4294967295 { place as u32 } else { 0 };
         if self.temps <= k {
             self.temps = k.saturating_add(1);
         }
-        Name::Numbered(b"$t", k)
+        let x = Name::Numbered(b"$t", k);
+        if self.plain && !self.is_declared(place) {
+            self.set_declared(place, true);
+            self.pool.declare(x, e);
+        } else {
+            self.pool.assign(x, e);
+        }
+        self.pool.named(x)
+    }
+
+    // Whether a plain function has declared a temporary: the first statement that sets one does.
+    fn is_declared(&self, place: usize) -> bool {
+        match self.declared.get(place) {
+            Some(b) => *b,
+            None => false,
+        }
+    }
+
+    fn set_declared(&mut self, place: usize, b: bool) {
+        for _ in self.declared.len()..place.saturating_add(1) {
+            if self.declared.push(false).is_err() {
+                self.pool.failed = true;
+            }
+        }
+        if place < self.declared.len() {
+            self.declared[place] = b;
+        }
     }
 
     /// One more value, in its temporary.
     pub fn push(&mut self, e: ExprId) {
         let place = self.stack.len();
-        let x = self.temp(place);
-        self.pool.assign(x, e);
-        let e = self.pool.named(x);
+        let e = self.set_temp(place, e);
         self.put(Operand {
             e,
             known: Known::Nothing,
@@ -300,6 +368,86 @@ impl<'p> Body<'p> {
         }
     }
 
+    // What the last statement of a plain function sets the last value's temporary to, where it does so.
+    fn just_set(&self) -> Option<ExprId> {
+        if !self.plain || self.last().known != Known::Nothing {
+            return None;
+        }
+        let place = self.stack.len().saturating_sub(1);
+        match self.pool.lines.last() {
+            Some(Stmt::Assign(x, e)) if is_temp(*x, place) => Some(*e),
+            Some(Stmt::Declare(x, e)) if is_temp(*x, place) => Some(*e),
+            _ => None,
+        }
+    }
+
+    // The last statement, which sets a temporary, goes.
+    fn unset(&mut self, place: usize) {
+        if let Some(Stmt::Declare(_, _)) = self.pool.lines.pop() {
+            self.set_declared(place, false);
+        }
+    }
+
+    /// Takes the last value from the stack, which a statement right after uses once: where the last statement sets its
+    /// temporary, what it is set to stands for it, and that statement goes.
+    pub fn take(&mut self) -> ExprId {
+        let set = self.just_set();
+        let o = self.pop();
+        match set {
+            Some(e) => {
+                self.unset(self.stack.len());
+                e
+            }
+            None => o.e,
+        }
+    }
+
+    /// The same for an operand of a call: no call stands in it.
+    pub fn take_operand(&mut self) -> ExprId {
+        match self.just_set() {
+            Some(e) if self.is_operation(e) => self.take(),
+            _ => self.pop().e,
+        }
+    }
+
+    fn is_operation(&self, e: ExprId) -> bool {
+        match self.pool.node(e) {
+            Node::Unary(_, _) | Node::Binary(_, _, _) | Node::Index(_, _) | Node::Length(_) => true,
+            _ => false,
+        }
+    }
+
+    /// Joins the last value with what a block sets it to, where that is all that the block does: then the operator does
+    /// what the block would.
+    pub fn join(&mut self, block: Block, both: bool) -> bool {
+        let place = self.stack.len().saturating_sub(1);
+        let right = match block.of(self.pool.stmts.as_slice()) {
+            [Stmt::Assign(x, e)] if is_temp(*x, place) => *e,
+            _ => return false,
+        };
+        let Some(left) = self.just_set() else {
+            return false;
+        };
+        if self.is_joined(left) || self.is_joined(right) {
+            return false;
+        }
+        self.unset(place);
+        let e = if both {
+            self.pool.both(left, right)
+        } else {
+            self.pool.either(left, right)
+        };
+        self.set_temp(place, e);
+        true
+    }
+
+    fn is_joined(&self, e: ExprId) -> bool {
+        match self.pool.node(e) {
+            Node::And(_, _) | Node::Or(_, _) => true,
+            _ => false,
+        }
+    }
+
     /// The last value of the stack.
     pub fn last(&self) -> Operand {
         self.value_at(self.stack.len().saturating_sub(1))
@@ -323,9 +471,7 @@ impl<'p> Body<'p> {
 
     /// Sets the temporary of a value on the stack anew.
     pub fn set_value(&mut self, place: usize, e: ExprId) {
-        let x = self.temp(place);
-        self.pool.assign(x, e);
-        let e = self.pool.named(x);
+        let e = self.set_temp(place, e);
         if place < self.stack.len() {
             self.stack[place] = Operand {
                 e,
@@ -340,6 +486,23 @@ impl<'p> Body<'p> {
         match o.known {
             Known::Nothing => self.put(o),
             _ => self.push(o.e),
+        }
+    }
+
+    /// The last value becomes a temporary, where it is a constant and no variable.
+    pub fn settle_constant(&mut self) {
+        if self.last().known != Known::Variable {
+            self.settle();
+        }
+    }
+
+    /// Values that are variables become temporaries, since assignments follow.
+    pub fn settle_variables(&mut self) {
+        for i in 0..self.depth() {
+            let o = self.value_at(i);
+            if o.known == Known::Variable {
+                self.set_value(i, o.e);
+            }
         }
     }
 

@@ -11,6 +11,7 @@ pub mod body;
 pub mod cases;
 pub mod frame;
 pub mod panics;
+pub mod slices;
 pub mod values;
 pub mod vars;
 pub mod zeros;

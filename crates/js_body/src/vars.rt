@@ -25,7 +25,7 @@ impl<'p> Body<'p> {
     /// A fresh variable with this value, which nothing else holds.
     pub fn bind(&mut self, h: Home, value: ExprId) {
         let e = self.fresh_var(h.boxed, value);
-        self.set_slot(h.slot, e);
+        self.begin_slot(h.slot, e);
     }
 
     /// A fresh variable at zero.

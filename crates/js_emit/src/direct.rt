@@ -111,16 +111,6 @@ fn end_program(b: &mut Body<'_>) {
 }
 
 fn finish(b: &mut Body<'_>, block: Block) {
-    let mark = b.pool.open();
-    let none = b.pool.num(0);
-    for k in 0..b.temps {
-        b.pool.declare(Name::Numbered(b"$t", k), none);
-    }
-    for n in js_body::frame::HEAD..b.next_slot {
-        b.pool.declare(Name::Numbered(b"$v", n), none);
-    }
-    b.pool.include(block);
-    let body = b.pool.close(mark);
     let params = b.pool.params(&[]);
-    b.pool.function(Name::Word(b"$init"), params, body);
+    b.pool.function(Name::Word(b"$init"), params, block);
 }

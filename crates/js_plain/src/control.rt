@@ -24,8 +24,8 @@ pub fn leave_where(b: &mut Body<'_>, test: ExprId, n: u32) {
 
 /// Leaves what has a label where the last value doesn't hold.
 pub fn leave_unless(b: &mut Body<'_>, n: u32) {
-    let c = b.pop();
-    let test = b.pool.not(c.e);
+    let c = b.take();
+    let test = b.pool.not(c);
     leave_where(b, test, n);
 }
 
@@ -98,6 +98,7 @@ pub struct Turns {
 
 /// Begins a loop. Where nothing follows a turn, the next one is gone on with at once.
 pub fn begin_loop(b: &mut Body<'_>, has_post: bool) -> Turns {
+    b.enter_loop();
     let end = b.fresh(2);
     Turns {
         end,
@@ -123,9 +124,10 @@ pub fn end_turn(b: &mut Body<'_>, l: Turns, mark: Mark) {
     b.pool.include(block);
 }
 
-/// Ends a loop.
+/// Ends a loop; the slices that are opened before it are opened here.
 pub fn end_loop(b: &mut Body<'_>, l: Turns) {
     let block = b.pool.close(l.mark);
+    b.leave_loop();
     b.pool.forever_at(label_name(l.end), block);
 }
 
@@ -176,12 +178,12 @@ fn set_chosen(b: &mut Body<'_>, n: u32) {
 
 /// Chooses a clause where the last value holds.
 pub fn choose(b: &mut Body<'_>, c: Clauses, n: u32) {
-    let x = b.pop();
+    let x = b.take();
     let mark = b.pool.open();
     set_chosen(b, n);
     leave_at(b, c.chosen);
     let block = b.pool.close(mark);
-    b.pool.when(x.e, block);
+    b.pool.when(x, block);
 }
 
 /// Ends the choice, with the default where nothing was chosen; gives the number of the chosen clause.
@@ -224,6 +226,10 @@ pub fn end_clauses(b: &mut Body<'_>, c: Clauses, tag: ExprId, cases: Mark) {
 pub fn return_values(b: &mut Body<'_>) {
     if b.depth() == 0 {
         return return_results(b);
+    }
+    if b.depth() == 1 {
+        let e = b.take();
+        return b.pool.give(e);
     }
     let mark = b.pool.open_list();
     for i in 0..b.depth() {

@@ -3,7 +3,7 @@
 use crate::control::return_values;
 use crate::stmt::stmts;
 use go_core::program::Func;
-use go_core::statement::CoreStmtForm;
+use go_core::statement::{CoreStmtForm, CoreStmts};
 use go_core::tree::FuncId;
 use js_body::Body;
 use js_pool::{Block, Name, Names};
@@ -15,7 +15,7 @@ pub fn add_plain<'p>(b: &mut Body<'p>, id: FuncId) {
         let mark = b.pool.open();
         begin(b, id, f);
         stmts(b, &f.body);
-        if !returns(f) && !b.results.is_empty() {
+        if !b.results.is_empty() && !ends(&f.body) {
             return_values(b);
         }
         let block = b.pool.close(mark);
@@ -23,11 +23,18 @@ pub fn add_plain<'p>(b: &mut Body<'p>, id: FuncId) {
     }
 }
 
-// Whether the last statement is a return.
-fn returns(f: &Func) -> bool {
-    match f.body.items.as_slice() {
+// Whether nothing after these statements is come to, as their last one shows. Go specification (as of Go 1.17),
+// "Terminating statements".
+fn ends(list: &CoreStmts) -> bool {
+    match list.items.as_slice() {
         [.., last] => match &*last.form {
-            CoreStmtForm::Return(_) => true,
+            CoreStmtForm::Return(_) | CoreStmtForm::Panic(_) => true,
+            CoreStmtForm::Seq(list) => ends(list),
+            CoreStmtForm::If {
+                when_true,
+                when_false,
+                ..
+            } => ends(when_true) && ends(when_false),
             _ => false,
         },
         [] => false,
@@ -38,20 +45,16 @@ fn var_name(n: u32) -> Name {
     Name::Numbered(b"$v", n)
 }
 
-// Parameters that are boxed get their boxes, results are at zero, and what is captured is at hand.
+// Parameters that are boxed get their boxes, and what is captured is at hand.
 fn begin<'p>(b: &mut Body<'p>, id: FuncId, f: &'p Func) {
     let params = b.facts.param_count(id);
-    let results = b.results.len();
     let mut i: usize = 0;
     for v in f.vars.items.as_slice() {
         let h = b.home(v.id);
-        if i < params {
-            if h.boxed {
-                let e = b.slot(h.slot);
-                b.bind(h, e);
-            }
-        } else if i < params.saturating_add(results) {
-            b.declare(v.id);
+        if i < params && h.boxed {
+            let e = b.slot(h.slot);
+            let e = b.fresh_var(true, e);
+            b.set_slot(h.slot, e);
         }
         i = i.saturating_add(1);
     }
@@ -60,7 +63,7 @@ fn begin<'p>(b: &mut Body<'p>, id: FuncId, f: &'p Func) {
         let h = b.home(*v);
         let held = b.pool.name(b"$c");
         let e = b.pool.at(held, n);
-        b.set_slot(h.slot, e);
+        b.begin_slot(h.slot, e);
         n = n.saturating_add(1);
     }
 }
@@ -82,30 +85,27 @@ fn params<'p>(b: &mut Body<'p>, id: FuncId, f: &'p Func) -> Names {
     b.pool.close_params(mark)
 }
 
-// `function $fK($v8,..){var $t0=0;..var $v9=0;..}`
+// Results that are mentioned begin at zero.
+fn begin_results<'p>(b: &mut Body<'p>, id: FuncId, f: &'p Func) {
+    let from = b.facts.param_count(id);
+    let to = from.saturating_add(b.results.len());
+    let mut i: usize = 0;
+    for v in f.vars.items.as_slice() {
+        if i >= from && i < to {
+            b.declare(v.id);
+        }
+        i = i.saturating_add(1);
+    }
+}
+
+// `function $fK($v8,..){..}`
 fn finish<'p>(b: &mut Body<'p>, id: FuncId, f: &'p Func, block: Block) {
     let names = params(b, id, f);
     let mark = b.pool.open();
-    let none = b.pool.num(0);
-    for k in 0..b.temps {
-        b.pool.declare(Name::Numbered(b"$t", k), none);
-    }
-    let first = first_own(b, id);
-    for n in first..b.next_slot {
-        b.pool.declare(var_name(n), none);
+    if b.mentions_results {
+        begin_results(b, id, f);
     }
     b.pool.include(block);
     let body = b.pool.close(mark);
     b.pool.function(Name::Numbered(b"$f", id.0), names, body);
-}
-
-// The slot after those of the parameters.
-fn first_own(b: &Body<'_>, id: FuncId) -> u32 {
-    let many = b.facts.param_count(id);
-    let many = if many < 4294967295 {
-        many as u32
-    } else {
-        4294967295
-    };
-    many.saturating_add(js_body::frame::HEAD)
 }

@@ -7,6 +7,7 @@
 
 pub mod control;
 pub mod function;
+pub mod sets;
 pub mod stmt;
 
 pub use function::add_plain;

@@ -5,12 +5,13 @@ use crate::control::{
     close_at, end_arm, end_choice, end_clause, end_clauses, end_if, end_loop, end_turn,
     leave_unless, leave_where, return_values,
 };
+use crate::sets::{note_sets, note_var};
 use go_core::node::{CoreExpr, PlaceForm, VarId};
 use go_core::statement::{CoreClauses, CoreStmt, CoreStmtForm, CoreStmts, CoreTest, Label, Target};
 use js_body::Body;
-use js_pool::{Name, Node};
+use js_pool::{ExprId, Name, Node, Stmt};
 use js_values::expr::{expr, exprs};
-use js_values::ranges::{begin_range, has_next, take_next};
+use js_values::ranges::{Range, begin_range, has_next, take_next};
 use js_values::simple::simple;
 
 /// Statements, first to last.
@@ -46,37 +47,13 @@ pub fn stmt<'p>(b: &mut Body<'p>, s: &'p CoreStmt, around: Option<u32>) {
             condition,
             when_true,
             when_false,
-        } => {
-            let c = begin_if(b, around, is_one_if(when_false));
-            expr(b, condition);
-            let test = b.pop().e;
-            let mark = b.pool.open();
-            stmts(b, when_true);
-            let arm = end_arm(b, c, test, mark);
-            let mark = b.pool.open();
-            if is_one_if(when_false) {
-                for other in &when_false.items {
-                    stmt(b, other, c.end);
-                }
-            } else {
-                stmts(b, when_false);
-            }
-            end_if(b, c, test, arm, mark);
-        }
+        } => if_else(b, around, condition, when_true, when_false),
         CoreStmtForm::Loop {
             label,
             condition,
             body,
             post,
-        } => {
-            let l = begin_loop(b, !post.items.is_empty());
-            test_turn(b, condition, l);
-            let mark = begin_turn(b, *label, l);
-            stmts(b, body);
-            end_turn(b, l, mark);
-            stmts(b, post);
-            end_loop(b, l);
-        }
+        } => turns(b, *label, condition, body, post),
         CoreStmtForm::SwitchOn {
             label,
             tests,
@@ -86,9 +63,7 @@ pub fn stmt<'p>(b: &mut Body<'p>, s: &'p CoreStmt, around: Option<u32>) {
             let c = begin_choice(b, clauses.items.len());
             choices(b, tests.items.as_slice(), c);
             let tag = end_choice(b, c, *default);
-            let cases = b.pool.open_cases();
-            chosen(b, clauses, *label, c);
-            end_clauses(b, c, tag, cases);
+            chosen(b, clauses, *label, c, tag);
         }
         CoreStmtForm::RangeNext {
             label,
@@ -100,36 +75,80 @@ pub fn stmt<'p>(b: &mut Body<'p>, s: &'p CoreStmt, around: Option<u32>) {
         } => {
             expr(b, operand);
             let r = begin_range(b, *from, *key, *value);
-            let l = begin_loop(b, false);
-            let test = has_next(b, r);
-            let test = b.pool.not(test);
-            leave_where(b, test, l.end);
-            take_next(b, r);
-            let mark = begin_turn(b, *label, l);
-            stmts(b, body);
-            end_turn(b, l, mark);
-            end_loop(b, l);
+            range_turns(b, r, *label, body);
         }
-        CoreStmtForm::Labeled { label, body } => {
-            let end = b.fresh(1);
-            let mark = b.pool.open();
-            b.enter_label(*label, end, end);
-            stmts(b, body);
-            b.leave_label();
-            close_at(b, mark, end);
-        }
-        CoreStmtForm::Branch { kind, label } => branch(b, *kind, *label),
-        CoreStmtForm::Return(values) => {
-            exprs(b, &values.items);
-            return_values(b);
-        }
-        _ => {}
+        CoreStmtForm::Labeled { label, body } => labeled(b, *label, body),
+        _ => other(b, s),
     }
+}
+
+// `if`
+#[cycle(stmt)]
+fn if_else<'p>(
+    b: &mut Body<'p>,
+    around: Option<u32>,
+    condition: &'p CoreExpr,
+    when_true: &'p CoreStmts,
+    when_false: &'p CoreStmts,
+) {
+    let c = begin_if(b, around, is_one_if(when_false));
+    expr(b, condition);
+    let test = b.take();
+    let mark = b.pool.open();
+    stmts(b, when_true);
+    let arm = end_arm(b, c, test, mark);
+    let mark = b.pool.open();
+    if is_one_if(when_false) {
+        for other in &when_false.items {
+            stmt(b, other, c.end);
+        }
+    } else {
+        stmts(b, when_false);
+    }
+    end_if(b, c, test, arm, mark);
+}
+
+// The turns of a loop.
+#[cycle(stmt)]
+fn turns<'p>(
+    b: &mut Body<'p>,
+    label: Label,
+    condition: &'p Option<CoreExpr>,
+    body: &'p CoreStmts,
+    post: &'p CoreStmts,
+) {
+    let l = begin_loop(b, !post.items.is_empty());
+    note_sets(b, body);
+    note_sets(b, post);
+    test_turn(b, condition, l);
+    let mark = begin_turn(b, label, l);
+    stmts(b, body);
+    end_turn(b, l, mark);
+    stmts(b, post);
+    end_loop(b, l);
+}
+
+// The turns of a range.
+#[cycle(stmt)]
+fn range_turns<'p>(b: &mut Body<'p>, r: Range, label: Label, body: &'p CoreStmts) {
+    let l = begin_loop(b, false);
+    note_var(b, r.key);
+    note_var(b, r.value);
+    note_sets(b, body);
+    let test = has_next(b, r);
+    let test = b.pool.not(test);
+    leave_where(b, test, l.end);
+    take_next(b, r);
+    let mark = begin_turn(b, label, l);
+    stmts(b, body);
+    end_turn(b, l, mark);
+    end_loop(b, l);
 }
 
 // The clauses of a switch.
 #[cycle(stmt)]
-fn chosen<'p>(b: &mut Body<'p>, clauses: &'p CoreClauses, label: Label, c: Clauses) {
+fn chosen<'p>(b: &mut Body<'p>, clauses: &'p CoreClauses, label: Label, c: Clauses, tag: ExprId) {
+    let cases = b.pool.open_cases();
     let mut n: u32 = 0;
     for clause in &clauses.items {
         let mark = begin_clause(b, c, label);
@@ -137,6 +156,18 @@ fn chosen<'p>(b: &mut Body<'p>, clauses: &'p CoreClauses, label: Label, c: Claus
         end_clause(b, c, n, clause.falls_through, mark);
         n = n.saturating_add(1);
     }
+    end_clauses(b, c, tag, cases);
+}
+
+// A statement that `break` can leave.
+#[cycle(stmt)]
+fn labeled<'p>(b: &mut Body<'p>, label: Label, body: &'p CoreStmts) {
+    let end = b.fresh(1);
+    let mark = b.pool.open();
+    b.enter_label(label, end, end);
+    stmts(b, body);
+    b.leave_label();
+    close_at(b, mark, end);
 }
 
 // ---- what holds no statements
@@ -163,15 +194,33 @@ fn declare_all(b: &mut Body<'_>, fresh: &mut Vec<VarId>) {
 fn first_store<'p>(b: &mut Body<'p>, s: &'p CoreStmt, targets: &'p [Target], fresh: &[VarId]) {
     let from = b.pool.nodes.len();
     let mark = b.pool.open();
+    let begun = b.pool.lines.len();
     simple(b, s);
-    let block = b.pool.close(mark);
     let to = b.pool.nodes.len();
+    let mut unset = Vec::new(b.pool.alloc);
     for v in fresh {
-        if !sets(targets, *v) || is_read(b, *v, from, to) {
-            b.declare(*v);
+        if sets(targets, *v) && !is_read(b, *v, from, to) {
+            declare_where_set(b, *v, begun);
+        } else if unset.push(*v).is_err() {
+            b.pool.failed = true;
         }
     }
+    let block = b.pool.close(mark);
+    declare_all(b, &mut unset);
     b.pool.include(block);
+}
+
+// The statement since these that sets a fresh variable declares it.
+fn declare_where_set(b: &mut Body<'_>, v: VarId, begun: usize) {
+    let slot = b.home(v).slot;
+    for i in begun..b.pool.lines.len() {
+        if let Stmt::Assign(Name::Numbered(word, n), e) = b.pool.lines[i]
+            && n == slot
+            && *word == *b"$v".as_slice()
+        {
+            b.pool.lines[i] = Stmt::Declare(Name::Numbered(word, n), e);
+        }
+    }
 }
 
 fn sets(targets: &[Target], v: VarId) -> bool {
@@ -207,6 +256,18 @@ fn is_one_if(list: &CoreStmts) -> bool {
         return true;
     }
     false
+}
+
+// Statements that leave others.
+fn other<'p>(b: &mut Body<'p>, s: &'p CoreStmt) {
+    match &*s.form {
+        CoreStmtForm::Branch { kind, label } => branch(b, *kind, *label),
+        CoreStmtForm::Return(values) => {
+            exprs(b, &values.items);
+            return_values(b);
+        }
+        _ => {}
+    }
 }
 
 // A loop is left where its condition doesn't hold.

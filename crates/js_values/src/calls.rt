@@ -144,9 +144,14 @@ fn add_arguments(b: &mut Body<'_>, called: Called, from: usize) -> u32 {
             first = from.saturating_add(1);
         }
     }
-    for i in first..b.depth() {
-        let o = b.value_at(i);
-        b.pool.item(o.e);
+    let end = b.depth();
+    for i in first..end {
+        let e = if i.saturating_add(1) == end {
+            b.take_operand()
+        } else {
+            b.value_at(i).e
+        };
+        b.pool.item(e);
         n = n.saturating_add(1);
     }
     n

@@ -1,7 +1,7 @@
 //! Composite literals, `new`, and fresh variables in expressions: Go specification (as of Go 1.17),
 //! "Composite literals", "Allocation".
 
-use go_core::node::{CoreElement, Var};
+use go_core::node::{CoreElement, Var, VarId};
 use go_type::types::TypeId;
 use js_body::Body;
 use js_facts::Held;
@@ -109,12 +109,21 @@ pub fn new_value(b: &mut Body<'_>, t: TypeId) {
 
 /// Fresh variables with the values from here on.
 pub fn let_in(b: &mut Body<'_>, from: usize, vars: &[Var]) {
+    if let [only] = vars {
+        let value = b.take();
+        return let_one(b, only.id, value);
+    }
     let mut n = from;
     for v in vars {
-        let h = b.home(v.id);
         let value = b.value_at(n);
-        b.bind(h, value.e);
+        let_one(b, v.id, value.e);
         n = n.saturating_add(1);
     }
     b.drop_to(from);
+}
+
+fn let_one(b: &mut Body<'_>, v: VarId, value: ExprId) {
+    b.keep_closed(v);
+    let h = b.home(v);
+    b.bind(h, value);
 }

@@ -13,10 +13,10 @@ use crate::logic::{begin_logic, end_logic};
 use crate::maps::{build_map, make_map, make_map_sized, map_get};
 use crate::numbers::{binary, constant_count, convert, count, size, unary};
 use crate::places::{
-    Spot, address, deref_spot, elem_spot, field_spot, global_spot, local_spot, read,
-    slice_elem_spot,
+    Spot, address, deref_spot, elem_spot, field_spot, global_spot, local_spot, opened,
+    opened_elem_spot, read, slice_elem_spot,
 };
-use crate::slices::{append, cap, copy_elems, len, make_slice, slice_of};
+use crate::slices::{append, cap, copy_elems, len, make_slice, opened_len, opened_of, slice_of};
 use crate::stores::index_kind;
 use crate::strings::{byte_at, concat};
 use gj_base::Op;
@@ -122,7 +122,7 @@ pub fn expr<'p>(b: &mut Body<'p>, e: &'p CoreExpr) {
         }
         CoreForm::ByteAt { text, index } => {
             expr(b, text);
-            b.settle();
+            b.settle_constant();
             expr(b, index);
             let kind = index_kind(b, index);
             byte_at(b, kind);
@@ -136,7 +136,7 @@ pub fn expr<'p>(b: &mut Body<'p>, e: &'p CoreExpr) {
             ..
         } => {
             expr(b, operand);
-            b.settle();
+            b.settle_constant();
             match low {
                 Some(low) => {
                     expr(b, low);
@@ -227,7 +227,10 @@ pub fn expr<'p>(b: &mut Body<'p>, e: &'p CoreExpr) {
         }
         CoreForm::Len { from, operand } => {
             expr(b, operand);
-            len(b, *from);
+            match opened_of(b, *from, operand) {
+                Some(parts) => opened_len(b, parts),
+                None => len(b, *from),
+            }
         }
         CoreForm::Cap { from, operand } => {
             expr(b, operand);
@@ -405,7 +408,10 @@ pub fn placed<'p>(b: &mut Body<'p>, p: &'p CorePlace) -> Spot {
             expr(b, index);
             let i = b.last();
             let kind = index_kind(b, index);
-            slice_elem_spot(b, *slice_type, s, kind, i)
+            match opened(b, operand) {
+                Some(parts) => opened_elem_spot(b, *slice_type, parts, kind, i),
+                None => slice_elem_spot(b, *slice_type, s, kind, i),
+            }
         }
     }
 }

@@ -9,6 +9,7 @@ use js_pool::{ExprId, Mark};
 pub struct Logic {
     mark: Mark,
     test: ExprId,
+    both: bool,
     end: u32,
 }
 
@@ -21,6 +22,7 @@ pub fn begin_logic(b: &mut Body<'_>, goes_on: bool) -> Logic {
         return Logic {
             mark: b.pool.open(),
             test,
+            both: goes_on,
             end: 0,
         };
     }
@@ -33,6 +35,7 @@ pub fn begin_logic(b: &mut Body<'_>, goes_on: bool) -> Logic {
     Logic {
         mark: b.pool.open(),
         test: x.e,
+        both: goes_on,
         end,
     }
 }
@@ -42,7 +45,9 @@ pub fn end_logic(b: &mut Body<'_>, l: Logic) {
     b.settle();
     if b.plain {
         let block = b.pool.close(l.mark);
-        b.pool.when(l.test, block);
+        if !b.join(block, l.both) {
+            b.pool.when(l.test, block);
+        }
         return;
     }
     b.mark(l.end);

@@ -5,8 +5,9 @@
 //! later changes which place it is.
 
 use gj_base::Kind;
-use go_core::node::VarId;
+use go_core::node::{CoreExpr, CoreForm, PlaceForm, VarId};
 use go_type::types::TypeId;
+use js_body::slices::Parts;
 use js_body::{Body, Known, Operand};
 use js_facts::held::{element, field_type, parts};
 use js_pool::ExprId;
@@ -91,6 +92,27 @@ fn within_array(b: &mut Body<'_>, kind: Kind, i: Operand, count: u32) -> ExprId 
     }
 }
 
+/// The parts of a slice, where it is a variable that is opened before a loop around.
+pub fn opened(b: &mut Body<'_>, slice: &CoreExpr) -> Option<Parts> {
+    if let CoreForm::Read { place, .. } = &*slice.form
+        && let PlaceForm::Local(v) = &*place.form
+    {
+        return b.opened(*v);
+    }
+    None
+}
+
+/// An element of a slice whose parts stand in slots, at an index of this kind.
+pub fn opened_elem_spot(b: &mut Body<'_>, t: TypeId, s: Parts, kind: Kind, i: Operand) -> Spot {
+    let ty = element(b.table(), t);
+    let n = b.slot(s.count);
+    let i = b.within(kind, i, n);
+    let from = b.slot(s.first);
+    let place = b.pool.plus(from, i);
+    let holder = b.slot(s.elements);
+    part(b, holder, place, ty)
+}
+
 /// An element of a slice at an index of this kind.
 pub fn slice_elem_spot(b: &mut Body<'_>, t: TypeId, s: Operand, kind: Kind, i: Operand) -> Spot {
     let ty = element(b.table(), t);
@@ -136,7 +158,13 @@ pub fn read(b: &mut Body<'_>, from: usize, spot: Spot, t: TypeId) {
     let e = match spot {
         Spot::Block(block) => b.copied(block, t),
         Spot::Cell(a, i) => b.pool.index(a, i),
-        Spot::Var(n) => b.slot(n),
+        Spot::Var(n) => {
+            let e = b.slot(n);
+            if b.plain {
+                return b.push_known(e, Known::Variable);
+            }
+            e
+        }
     };
     b.push(e);
 }

@@ -4,47 +4,63 @@
 use go_core::node::Var;
 use go_type::types::{GoType, TypeId};
 use js_body::Body;
+use js_body::slices::parts_at;
 use js_facts::Held;
 use js_facts::held::{level, parts};
 use js_pool::ExprId;
 
-/// A range: what it goes over, how far it has come, and how far it goes.
+/// A range: what it goes over, or of a slice its elements and the first one's index; how far it goes, and how far it
+/// has come.
 #[derive(Clone, Copy)]
 pub struct Range {
     pub from: TypeId,
     pub over: u32,
-    pub at: u32,
+    pub first: u32,
     pub most: u32,
+    pub at: u32,
     pub key: Option<Var>,
     pub value: Option<Var>,
 }
 
 /// Begins a range over the last value, of a type.
 pub fn begin_range(b: &mut Body<'_>, from: TypeId, key: Option<Var>, value: Option<Var>) -> Range {
-    let over = b.fresh_slots(3);
+    let over = b.fresh_slots(4);
+    let parts = parts_at(over);
     let r = Range {
         from,
         over,
-        at: over.saturating_add(1),
-        most: over.saturating_add(2),
+        first: parts.first,
+        most: parts.count,
+        at: over.saturating_add(3),
         key,
         value,
     };
-    let x = b.pop();
-    b.set_slot(r.over, x.e);
     match b.held(from) {
-        Held::Map => {
-            let none = b.pool.null();
-            b.set_slot(r.at, none);
+        Held::Slice => {
+            let x = b.pop();
+            b.open_slice(x.e, parts);
         }
+        _ => begin_over(b, r),
+    }
+    let none = match b.held(from) {
+        Held::Map => b.pool.null(),
+        _ => b.pool.num(0),
+    };
+    b.begin_slot(r.at, none);
+    r
+}
+
+// What isn't a slice is gone over itself.
+fn begin_over(b: &mut Body<'_>, r: Range) {
+    let x = b.take();
+    b.begin_slot(r.over, x);
+    match b.held(r.from) {
+        Held::Map => {}
         _ => {
             let most = most(b, r);
-            b.set_slot(r.most, most);
-            let none = b.pool.num(0);
-            b.set_slot(r.at, none);
+            b.begin_slot(r.most, most);
         }
     }
-    r
 }
 
 // How many elements, numbers or bytes there are.
@@ -53,13 +69,6 @@ fn most(b: &mut Body<'_>, r: Range) -> ExprId {
     match level(b.table(), r.from) {
         Some(GoType::Array(n, _)) => b.pool.num(*n as u64),
         Some(GoType::Pointer(to)) => most_of_pointer(b, r, *to),
-        Some(GoType::Slice(_)) => {
-            let none = b.pool.null();
-            let nil = b.pool.same(over, none);
-            let zero = b.pool.num(0);
-            let n = b.pool.at(over, 2);
-            b.pool.choice(nil, zero, n)
-        }
         Some(GoType::Str) | Some(GoType::Untyped(_)) => b.pool.length(over),
         _ => over,
     }
@@ -126,10 +135,9 @@ fn element_of(b: &mut Body<'_>, r: Range, at: ExprId) -> ExprId {
     let over = b.slot(r.over);
     match b.held(r.from) {
         Held::Slice => {
-            let holder = b.pool.at(over, 0);
-            let from = b.pool.at(over, 1);
-            let place = b.pool.plus(from, at);
-            b.pool.index(holder, place)
+            let first = b.slot(r.first);
+            let place = b.pool.plus(first, at);
+            b.pool.index(over, place)
         }
         _ => b.pool.index(over, at),
     }

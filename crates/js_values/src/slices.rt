@@ -2,7 +2,10 @@
 //! maps and channels", "Appending to and copying slices". A slice is an array of the array that holds its
 //! elements, the first one's index, the length and the capacity; nil is null.
 
+use crate::places::opened;
+use go_core::node::CoreExpr;
 use go_type::types::{GoType, TypeId};
+use js_body::slices::Parts;
 use js_body::{Body, Known, Operand};
 use js_facts::Held;
 use js_facts::held::{element, level, parts};
@@ -69,6 +72,21 @@ pub fn len(b: &mut Body<'_>, from: TypeId) {
     b.push(e);
 }
 
+/// The parts of a slice whose length is asked for, where it is opened.
+pub fn opened_of(b: &mut Body<'_>, from: TypeId, e: &CoreExpr) -> Option<Parts> {
+    match b.held(from) {
+        Held::Slice => opened(b, e),
+        _ => None,
+    }
+}
+
+/// The length of the last value, a slice that is opened.
+pub fn opened_len(b: &mut Body<'_>, s: Parts) {
+    b.pop();
+    let n = b.slot(s.count);
+    b.push_known(n, Known::Variable);
+}
+
 /// The capacity of the last value, of a type.
 pub fn cap(b: &mut Body<'_>, from: TypeId) {
     let x = b.pop();
@@ -132,7 +150,7 @@ fn as_slice(b: &mut Body<'_>, from: TypeId, x: Operand) -> ExprId {
 pub fn copy_elems(b: &mut Body<'_>, t: TypeId, from: TypeId) {
     let s = b.pop();
     let at = b.depth().saturating_sub(1);
-    b.settle();
+    b.settle_constant();
     let s = as_slice(b, from, s);
     let s = after(b, s);
     let t_slice = b.value_at(at);

@@ -4,7 +4,8 @@
 use crate::expr::{expr, exprs};
 use crate::maps::set_entry;
 use crate::places::{
-    Spot, deref_spot, elem_spot, field_spot, global_spot, local_spot, slice_elem_spot,
+    Spot, deref_spot, elem_spot, field_spot, global_spot, local_spot, opened, opened_elem_spot,
+    slice_elem_spot,
 };
 use gj_base::Kind;
 use go_core::node::{CoreExpr, CorePlace, PlaceForm};
@@ -12,14 +13,52 @@ use go_core::statement::Target;
 use go_type::types::TypeId;
 use js_body::{Body, Operand};
 use js_facts::types::{pointed, type_of};
+use js_pool::ExprId;
 
 /// `a, b = x, y`
 pub fn store<'p>(b: &mut Body<'p>, targets: &'p [Target], values: &'p Vec<CoreExpr>) {
+    match targets {
+        [Target::Place { ty, place }] if is_variable(place) => {
+            exprs(b, values);
+            let value = b.take();
+            let spot = found(b, place, &mut 0);
+            store_at(b, spot, value, *ty);
+        }
+        _ => store_all(b, targets, values),
+    }
+    b.drop_to(0);
+}
+
+// Whether a place is a variable, and no part of one.
+fn is_variable(p: &CorePlace) -> bool {
+    match &*p.form {
+        PlaceForm::Local(_) | PlaceForm::Global(_) => true,
+        _ => false,
+    }
+}
+
+// Whether an assignment to one of several left sides may change a variable that stands on the stack.
+fn set_variables(targets: &[Target]) -> bool {
+    for t in targets {
+        if let Target::Place { place, .. } = t
+            && let PlaceForm::Local(_) = &*place.form
+        {
+            return targets.len() > 1;
+        }
+    }
+    false
+}
+
+// The operands of the left and the right sides, then one assignment after another.
+fn store_all<'p>(b: &mut Body<'p>, targets: &'p [Target], values: &'p Vec<CoreExpr>) {
     for t in targets {
         target_operands(b, t);
     }
     let first = b.depth();
     exprs(b, values);
+    if set_variables(targets) {
+        b.settle_variables();
+    }
     let mut at: usize = 0;
     let mut n = first;
     for t in targets {
@@ -27,7 +66,6 @@ pub fn store<'p>(b: &mut Body<'p>, targets: &'p [Target], values: &'p Vec<CoreEx
         assign_to(b, t, &mut at, value);
         n = n.saturating_add(1);
     }
-    b.drop_to(0);
 }
 
 fn target_operands<'p>(b: &mut Body<'p>, t: &'p Target) {
@@ -100,13 +138,16 @@ fn found<'p>(b: &mut Body<'p>, p: &'p CorePlace, at: &mut usize) -> Spot {
         }
         PlaceForm::SliceElem {
             slice_type,
+            operand,
             index,
-            ..
         } => {
             let s = next(b, at);
             let i = next(b, at);
             let kind = index_kind(b, index);
-            slice_elem_spot(b, *slice_type, s, kind, i)
+            match opened(b, operand) {
+                Some(parts) => opened_elem_spot(b, *slice_type, parts, kind, i),
+                None => slice_elem_spot(b, *slice_type, s, kind, i),
+            }
         }
     }
 }
@@ -116,7 +157,7 @@ fn assign_to<'p>(b: &mut Body<'p>, t: &'p Target, at: &mut usize, value: Operand
         Target::Blank => {}
         Target::Place { ty, place } => {
             let spot = found(b, place, at);
-            store_at(b, spot, value, *ty);
+            store_at(b, spot, value.e, *ty);
         }
         Target::Entry { map_type, .. } => {
             let m = next(b, at);
@@ -126,10 +167,10 @@ fn assign_to<'p>(b: &mut Body<'p>, t: &'p Target, at: &mut usize, value: Operand
     }
 }
 
-fn store_at(b: &mut Body<'_>, spot: Spot, value: Operand, t: TypeId) {
+fn store_at(b: &mut Body<'_>, spot: Spot, value: ExprId, t: TypeId) {
     match spot {
-        Spot::Block(block) => b.copy_over(block, value.e, t),
-        Spot::Cell(a, i) => b.pool.store(a, i, value.e),
-        Spot::Var(n) => b.set_slot(n, value.e),
+        Spot::Block(block) => b.copy_over(block, value, t),
+        Spot::Cell(a, i) => b.pool.store(a, i, value),
+        Spot::Var(n) => b.set_slot(n, value),
     }
 }
