@@ -395,7 +395,8 @@ impl<'p> Body<'p> {
         let o = self.pop();
         match set {
             Some(e) => {
-                self.unset(self.stack.len());
+                let place = self.stack.len();
+                self.unset(place);
                 e
             }
             None => o.e,
@@ -421,11 +422,7 @@ impl<'p> Body<'p> {
     /// what the block would.
     pub fn join(&mut self, block: Block, both: bool) -> bool {
         let place = self.stack.len().saturating_sub(1);
-        let right = match block.of(self.pool.stmts.as_slice()) {
-            [Stmt::Assign(x, e)] if is_temp(*x, place) => *e,
-            _ => return false,
-        };
-        let Some(left) = self.just_set() else {
+        let (Some(left), Some(right)) = (self.just_set(), self.only_set(block, place)) else {
             return false;
         };
         if self.is_joined(left) || self.is_joined(right) {
@@ -439,6 +436,17 @@ impl<'p> Body<'p> {
         };
         self.set_temp(place, e);
         true
+    }
+
+    // What the temporary at a place of the stack is set to by a block that does nothing else.
+    fn only_set(&self, block: Block, place: usize) -> Option<ExprId> {
+        match block.of(self.pool.stmts.as_slice()) {
+            [only] => match *only {
+                Stmt::Assign(x, e) if is_temp(x, place) => Some(e),
+                _ => None,
+            },
+            _ => None,
+        }
     }
 
     fn is_joined(&self, e: ExprId) -> bool {
