@@ -40,7 +40,7 @@ fn count(c: &mut Checker, place: Place, y: Operand) -> Result<Operand, NoMemory>
     Ok(y)
 }
 
-/// `x << y` or `x >> y`: F57 where one is no integer.
+/// `x << y` or `x >> y`: F73 at a `nil`, F57 where one is no integer.
 pub fn shift(
     c: &mut Checker,
     place: Place,
@@ -48,7 +48,11 @@ pub fn shift(
     x: Operand,
     y: Operand,
 ) -> Result<Operand, NoMemory> {
-    if x.is_nil() || !c.is_integer(x.ty) {
+    if x.is_nil() || y.is_nil() {
+        let nil = if x.is_nil() { x } else { y };
+        return c.fail(FaultCode::UntypedNil, nil.place);
+    }
+    if !c.is_integer(x.ty) {
         return c.fail(FaultCode::BadShift, place);
     }
     let by = match y.constant() {

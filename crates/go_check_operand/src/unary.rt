@@ -51,11 +51,14 @@ fn is_defined(c: &Checker, op: Op, t: TypeId) -> bool {
     }
 }
 
-/// `+x`, `-x`, `^x` or `!x`: F54 where the type lacks it.
+/// `+x`, `-x`, `^x` or `!x`: F73 of `nil`, F54 where the type lacks it.
 pub fn unary(c: &mut Checker, place: Place, op: Op, x: Operand) -> Result<Operand, NoMemory> {
     let x = single_value(c, x)?;
     if x.is_unknown() {
         return c.unknown(place);
+    }
+    if x.is_nil() {
+        return c.fail(FaultCode::UntypedNil, x.place);
     }
     if !is_defined(c, op, x.ty) {
         return c.fail(FaultCode::BadOperator, place);

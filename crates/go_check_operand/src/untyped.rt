@@ -295,14 +295,19 @@ fn convert_value(
     })
 }
 
-/// Both operands of an operator with one type, where one can take that of the other. Go, "Operators".
+/// Both operands of an operator with one type, where one can take that of the other: F73 at a `nil` beside
+/// an untyped one. Go, "Operators".
 pub fn match_types(
     c: &mut Checker,
     x: Operand,
     y: Operand,
 ) -> Result<(Operand, Operand), NoMemory> {
-    if x.is_nil() && y.is_nil() {
+    if x.is_nil() && is_untyped(c, y) {
         let x = c.fail(FaultCode::UntypedNil, x.place)?;
+        return Ok((x, y));
+    }
+    if y.is_nil() && is_untyped(c, x) {
+        let y = c.fail(FaultCode::UntypedNil, y.place)?;
         return Ok((x, y));
     }
     match (is_untyped(c, x), is_untyped(c, y)) {

@@ -48,9 +48,30 @@ pub fn import(
     if name == INIT {
         return c.fault(FaultCode::BadMainOrInit, place);
     }
+    let object = declare(c, file, package, name, place)?;
+    rows.push(ImportRow {
+        place: import.place,
+        path,
+        name,
+        package,
+        object,
+    })?;
+    Ok(())
+}
+
+// The object that stands for a package in a file.
+//
+// A name that stands for something else too is not told as unused.
+fn declare(
+    c: &mut Checker,
+    file: u32,
+    package: u32,
+    name: NameId,
+    place: Place,
+) -> Result<u32, NoMemory> {
     let key = joined(file, name.0);
-    // A name that stands for something else too is not told as unused.
-    let taken = c.imports.get(&key).is_some() || c.member(c.package, name).is_some();
+    let first = c.imports.get(&key).is_none();
+    let taken = !first || c.member(c.package, name).is_some();
     if taken {
         c.fault_of(FaultCode::Redeclared, place, name)?;
     }
@@ -63,17 +84,10 @@ pub fn import(
         used: taken,
         must_use: false,
     })?;
-    if c.imports.get(&key).is_none() {
+    if first {
         c.imports.insert(key, object)?;
     }
-    rows.push(ImportRow {
-        place: import.place,
-        path,
-        name,
-        package,
-        object,
-    })?;
-    Ok(())
+    Ok(object)
 }
 
 /// F81 at each import that nothing uses.

@@ -2,7 +2,7 @@
 
 use gj_base::{NoMemory, Place};
 use go_syntax::tree::{
-    Block, Decl, DeclForm, Elem, Expr, ExprForm, Sig, Stmt, StmtForm, ValueSpec,
+    Block, Clause, Comm, Decl, DeclForm, Elem, Expr, ExprForm, Sig, Stmt, StmtForm, ValueSpec,
 };
 
 /// A function literal.
@@ -31,6 +31,69 @@ pub fn in_stmts<'a>(l: &mut Literals<'a>, list: &'a Vec<Stmt>) -> Result<(), NoM
 #[cycle(literals)]
 fn in_stmt<'a>(l: &mut Literals<'a>, s: &'a Stmt) -> Result<(), NoMemory> {
     match &*s.form {
+        StmtForm::Block(b) => in_stmts(l, &b.stmts),
+        StmtForm::Labeled(_, s) => in_stmt(l, s),
+        StmtForm::If(init, test, body, other) => {
+            in_maybe_stmt(l, init)?;
+            in_expr(l, test)?;
+            in_stmts(l, &body.stmts)?;
+            in_maybe_stmt(l, other)
+        }
+        StmtForm::For(init, test, post, body) => {
+            in_maybe_stmt(l, init)?;
+            in_maybe_expr(l, test)?;
+            in_maybe_stmt(l, post)?;
+            in_stmts(l, &body.stmts)
+        }
+        StmtForm::Range(left, _, over, body) => {
+            in_exprs(l, left)?;
+            in_expr(l, over)?;
+            in_stmts(l, &body.stmts)
+        }
+        StmtForm::Switch(init, tag, clauses) => {
+            in_maybe_stmt(l, init)?;
+            in_maybe_expr(l, tag)?;
+            in_clauses(l, clauses)
+        }
+        StmtForm::TypeSwitch(init, _, of, clauses) => {
+            in_maybe_stmt(l, init)?;
+            in_expr(l, of)?;
+            in_clauses(l, clauses)
+        }
+        StmtForm::Select(comms) => in_comms(l, comms),
+        _ => in_leaf(l, s),
+    }
+}
+
+#[cycle(literals)]
+fn in_maybe_stmt<'a>(l: &mut Literals<'a>, s: &'a Option<Stmt>) -> Result<(), NoMemory> {
+    match s {
+        Some(s) => in_stmt(l, s),
+        None => Ok(()),
+    }
+}
+
+#[cycle(literals)]
+fn in_clauses<'a>(l: &mut Literals<'a>, clauses: &'a Vec<Clause>) -> Result<(), NoMemory> {
+    for clause in clauses {
+        in_exprs(l, &clause.exprs)?;
+        in_stmts(l, &clause.body)?;
+    }
+    Ok(())
+}
+
+#[cycle(literals)]
+fn in_comms<'a>(l: &mut Literals<'a>, comms: &'a Vec<Comm>) -> Result<(), NoMemory> {
+    for comm in comms {
+        in_maybe_stmt(l, &comm.stmt)?;
+        in_stmts(l, &comm.body)?;
+    }
+    Ok(())
+}
+
+// Those of a statement that has no others in it.
+fn in_leaf<'a>(l: &mut Literals<'a>, s: &'a Stmt) -> Result<(), NoMemory> {
+    match &*s.form {
         StmtForm::Expr(list) | StmtForm::IncDec(list, _) | StmtForm::Return(list) => {
             in_exprs(l, list)
         }
@@ -43,70 +106,7 @@ fn in_stmt<'a>(l: &mut Literals<'a>, s: &'a Stmt) -> Result<(), NoMemory> {
             in_exprs(l, right)
         }
         StmtForm::Decl(d) => in_decl(l, d),
-        StmtForm::Block(b) => in_stmts(l, &b.stmts),
-        StmtForm::If(init, test, body, other) => {
-            if let Some(s) = init {
-                in_stmt(l, s)?;
-            }
-            in_expr(l, test)?;
-            in_stmts(l, &body.stmts)?;
-            match other {
-                Some(s) => in_stmt(l, s),
-                None => Ok(()),
-            }
-        }
-        StmtForm::For(init, test, post, body) => {
-            if let Some(s) = init {
-                in_stmt(l, s)?;
-            }
-            if let Some(e) = test {
-                in_expr(l, e)?;
-            }
-            if let Some(s) = post {
-                in_stmt(l, s)?;
-            }
-            in_stmts(l, &body.stmts)
-        }
-        StmtForm::Range(left, _, over, body) => {
-            in_exprs(l, left)?;
-            in_expr(l, over)?;
-            in_stmts(l, &body.stmts)
-        }
-        StmtForm::Switch(init, tag, clauses) => {
-            if let Some(s) = init {
-                in_stmt(l, s)?;
-            }
-            if let Some(e) = tag {
-                in_expr(l, e)?;
-            }
-            for clause in clauses {
-                in_exprs(l, &clause.exprs)?;
-                in_stmts(l, &clause.body)?;
-            }
-            Ok(())
-        }
-        StmtForm::TypeSwitch(init, _, of, clauses) => {
-            if let Some(s) = init {
-                in_stmt(l, s)?;
-            }
-            in_expr(l, of)?;
-            for clause in clauses {
-                in_exprs(l, &clause.exprs)?;
-                in_stmts(l, &clause.body)?;
-            }
-            Ok(())
-        }
-        StmtForm::Select(comms) => {
-            for comm in comms {
-                if let Some(s) = &comm.stmt {
-                    in_stmt(l, s)?;
-                }
-                in_stmts(l, &comm.body)?;
-            }
-            Ok(())
-        }
         StmtForm::Go(e) | StmtForm::Defer(e) => in_expr(l, e),
-        StmtForm::Labeled(_, s) => in_stmt(l, s),
         _ => Ok(()),
     }
 }
@@ -133,6 +133,14 @@ fn in_exprs<'a>(l: &mut Literals<'a>, list: &'a Vec<Expr>) -> Result<(), NoMemor
         in_expr(l, e)?;
     }
     Ok(())
+}
+
+#[cycle(operands)]
+fn in_maybe_expr<'a>(l: &mut Literals<'a>, e: &'a Option<Expr>) -> Result<(), NoMemory> {
+    match e {
+        Some(e) => in_expr(l, e),
+        None => Ok(()),
+    }
 }
 
 #[cycle(operands)]
@@ -166,16 +174,9 @@ pub fn in_expr<'a>(l: &mut Literals<'a>, e: &'a Expr) -> Result<(), NoMemory> {
         }
         ExprForm::Slice(x, low, high, max) => {
             in_expr(l, x)?;
-            if let Some(e) = low {
-                in_expr(l, e)?;
-            }
-            if let Some(e) = high {
-                in_expr(l, e)?;
-            }
-            match max {
-                Some(e) => in_expr(l, e),
-                None => Ok(()),
-            }
+            in_maybe_expr(l, low)?;
+            in_maybe_expr(l, high)?;
+            in_maybe_expr(l, max)
         }
         ExprForm::Call(f, args, _) => {
             in_expr(l, f)?;

@@ -1,5 +1,6 @@
 //! Methods of interfaces. Go, "Interface types".
 
+use crate::struct_type::MOST_PARTS;
 use gj_base::{NoMemory, Place, Text};
 use go_check_state::{Checker, FaultCode, NONE, Shape};
 use go_syntax::tree::Name;
@@ -41,13 +42,16 @@ fn is_there(specs: &Vec<MethodSpec>, name: &Text, package: &Text) -> bool {
         .any(|spec| spec.name == *name && spec.package == *package)
 }
 
-/// One more method of an interface: F77 where one has the name.
+/// One more method of an interface: F77 where one has the name. Past the limit of parts nothing is added.
 pub fn add_method(
     c: &mut Checker,
     out: &mut InterfaceRows,
     name: &Name,
     t: TypeId,
 ) -> Result<(), NoMemory> {
+    if out.specs.len() > MOST_PARTS {
+        return Ok(());
+    }
     let id = c.names.intern(name.text.as_bytes())?;
     let text = c.names.copy(id)?;
     let package = c.names.copy(c.package_of(id))?;
@@ -97,6 +101,9 @@ fn merge(
     };
     let mut known = true;
     for number in 0..count {
+        if specs.len() > MOST_PARTS {
+            break;
+        }
         known &= merge_one(c, specs, place, t, number)?;
     }
     Ok(known)
@@ -163,7 +170,7 @@ pub fn interface_type(
             out.known &= merge(c, &mut out.specs, at, t)?;
         }
     }
-    if out.specs.len() > 1000 {
+    if out.specs.len() > MOST_PARTS {
         c.fault(FaultCode::TooManyParts, place)?;
         return Ok(NONE);
     }

@@ -6,6 +6,9 @@ use go_check_state::{BLANK, Checker, FaultCode, NONE, NameId, Shape};
 use go_syntax::tree::{Expr, ExprForm, Name};
 use go_type::types::{FieldRow, TypeId};
 
+/// How many fields or methods a type may have.
+pub const MOST_PARTS: usize = 1000;
+
 /// The fields of a struct type so far, and whether all are typed.
 #[derive(Drop)]
 pub struct StructRows {
@@ -29,14 +32,14 @@ pub struct Embedded {
     pub ty: TypeId,
 }
 
-// F77 where a field has the name; answers whether it has none.
+// F77 where a field has the name; answers whether it has none. Past the limit of parts nothing is looked for.
 fn is_new(
     c: &mut Checker,
     rows: &Vec<FieldRow>,
     place: Place,
     name: NameId,
 ) -> Result<bool, NoMemory> {
-    if name == BLANK {
+    if name == BLANK || rows.len() > MOST_PARTS {
         return Ok(true);
     }
     let text = c.names.text(name);
@@ -139,7 +142,7 @@ fn is_embeddable(c: &mut Checker, embedded: Embedded) -> Result<bool, NoMemory> 
 
 /// The struct type of fields. Go, "Struct types".
 pub fn struct_type(c: &mut Checker, place: Place, out: StructRows) -> Result<TypeId, NoMemory> {
-    if out.rows.len() > 1000 {
+    if out.rows.len() > MOST_PARTS {
         c.fault(FaultCode::TooManyParts, place)?;
         return Ok(NONE);
     }

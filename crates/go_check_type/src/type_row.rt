@@ -73,7 +73,7 @@ pub fn small_type(c: &mut Checker, place: Place, t: TypeId) -> Result<TypeId, No
     Ok(t)
 }
 
-/// F70 at a map type with another key. Go, "Map types".
+/// A map type: F70 at the place of another key. Go, "Map types".
 pub fn map_type(
     c: &mut Checker,
     place: Place,
