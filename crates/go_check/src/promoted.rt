@@ -5,7 +5,7 @@ use gj_base::{NoMemory, Text};
 use go_check_call::calls::call;
 use go_check_core::MethodSpec;
 use go_check_primary::selectors::selector;
-use go_check_state::node::{PlaceNode, Span, VarRef};
+use go_check_state::node::{PlaceNode, Span, StmtId, VarRef};
 use go_check_state::state::MethodEntry;
 use go_check_state::{Checker, EMPTY, FuncRow, NO_OBJECT, NONE, NameId, Operand, Shape};
 use go_check_stmt::hold::set_body;
@@ -62,19 +62,27 @@ fn home_of(c: &mut Checker, id: NamedId, name: NameId) -> Result<NameId, NoMemor
     c.names.intern(home.as_bytes())
 }
 
-// Whether a type may have promoted methods.
+// Whether a type may have promoted methods: a struct with an embedded field.
 fn may_promote(c: &Checker, t: TypeId) -> bool {
-    match c.shape(t) {
-        Shape::Struct(_) => true,
-        _ => false,
+    let Shape::Struct(count) = c.shape(t) else {
+        return false;
+    };
+    for number in 0..count {
+        if let Some(row) = c.field(t, number) {
+            if row.embedded {
+                return true;
+            }
+        }
     }
+    false
 }
 
-// Whether a method set has a method.
-fn has_method(set: &Methods, name: &Text, package: &Text) -> bool {
-    set.as_slice()
-        .iter()
-        .any(|spec| spec.name == *name && spec.package == *package)
+// Whether a method stands at a place of a method set.
+fn stands_at(set: &Methods, at: usize, name: &Text, package: &Text) -> bool {
+    match set.as_slice().get(at) {
+        Some(spec) => spec.name == *name && spec.package == *package,
+        None => false,
+    }
 }
 
 fn is_declared(
@@ -102,7 +110,13 @@ fn promoted_rows(c: &mut Checker, rows: &mut Vec<MethodSpec>, t: TypeId) -> Resu
     }
     let all = c.types.method_set(c.alloc, pointer)?;
     let own = c.types.method_set(c.alloc, t)?;
+    // Both are sorted, and those of the type itself are among those of the pointer.
+    let mut at = 0usize;
     for spec in all.as_slice() {
+        let is_own = stands_at(&own, at, &spec.name, &spec.package);
+        if is_own {
+            at = at.saturating_add(1);
+        }
         let name = c.names.intern(spec.name.as_bytes())?;
         let package = c.names.intern(spec.package.as_bytes())?;
         if !is_declared(c, t, name, package)? {
@@ -115,7 +129,7 @@ fn promoted_rows(c: &mut Checker, rows: &mut Vec<MethodSpec>, t: TypeId) -> Resu
                 func,
             };
             rows.push(row)?;
-            if has_method(&own, &spec.name, &spec.package) {
+            if is_own {
                 rows.push(MethodSpec { ty: t, ..row })?;
             }
         }
@@ -168,9 +182,6 @@ fn wrapper(
     package: NameId,
     sig: TypeId,
 ) -> Result<u32, NoMemory> {
-    let Shape::Func(params, results, variadic) = c.shape(sig) else {
-        return Ok(0);
-    };
     if package != EMPTY {
         enter(c, package);
     }
@@ -188,25 +199,38 @@ fn wrapper(
     })?;
     c.current = Some(func.0);
     let vars = header(c, pointer, sig)?;
-    let receiver = variable(c, &vars, 0)?;
-    let method = selector(c, NOWHERE, receiver, NOWHERE, name)?;
-    let mut args: Vec<Operand> = Vec::new(c.alloc);
-    for number in 0..params {
-        args.push(variable(c, &vars, number.saturating_add(1))?)?;
-    }
-    let x = call(c, NOWHERE, method, args, variadic)?;
-    let body = if results == 0 {
-        performed(c, x)?
-    } else {
-        let mut one: Vec<Operand> = Vec::new(c.alloc);
-        one.push(x)?;
-        match one_each(c, one, results)? {
-            Some(sides) => return_sides(c, &sides, &sides.values)?,
-            None => performed(c, x)?,
-        }
-    };
+    let body = passed_on(c, &vars, name, sig)?;
     c.current = None;
     let params = c.nodes.list(vars.as_slice())?;
     set_body(c, func.0, params, body);
     Ok(func.0)
+}
+
+// The body of a wrapper: the method with the parameters, whose results are the wrapper's.
+fn passed_on(
+    c: &mut Checker,
+    vars: &Vec<u32>,
+    name: NameId,
+    sig: TypeId,
+) -> Result<StmtId, NoMemory> {
+    let (params, results, variadic) = match c.shape(sig) {
+        Shape::Func(params, results, variadic) => (params, results, variadic),
+        _ => (0, 0, false),
+    };
+    let receiver = variable(c, vars, 0)?;
+    let method = selector(c, NOWHERE, receiver, NOWHERE, name)?;
+    let mut args: Vec<Operand> = Vec::new(c.alloc);
+    for number in 0..params {
+        args.push(variable(c, vars, number.saturating_add(1))?)?;
+    }
+    let x = call(c, NOWHERE, method, args, variadic)?;
+    if results == 0 {
+        return performed(c, x);
+    }
+    let mut one: Vec<Operand> = Vec::new(c.alloc);
+    one.push(x)?;
+    match one_each(c, one, results)? {
+        Some(sides) => return_sides(c, &sides, &sides.values),
+        None => performed(c, x),
+    }
 }

@@ -1,6 +1,6 @@
 //! Calls of built-in functions. Go, "Built-in functions".
 
-use crate::calls::{elements, spread, within};
+use crate::calls::{are_typed, elements, spread, within};
 use crate::host::host;
 use gj_base::{NoMemory, Place};
 use go_check_operand::assignment::{assignment, default_value, single_value};
@@ -60,6 +60,9 @@ pub fn builtin(
     dots: bool,
     before: bool,
 ) -> Result<Operand, NoMemory> {
+    if !are_typed(&args) {
+        return c.unknown(place);
+    }
     let (args, several) = match b {
         Builtin::Make | Builtin::New => (args, None),
         _ => spread(c, args)?,

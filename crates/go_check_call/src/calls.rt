@@ -153,6 +153,11 @@ fn callee(c: &mut Checker, f: Operand, operands: &mut Vec<u32>) -> Result<Callee
     }
 }
 
+/// Whether all operands are typed.
+pub fn are_typed(list: &Vec<Operand>) -> bool {
+    !list.iter().any(|x| x.is_unknown())
+}
+
 /// `f(args)` of a value: F59 of no function.
 pub fn call(
     c: &mut Checker,
@@ -162,6 +167,9 @@ pub fn call(
     dots: bool,
 ) -> Result<Operand, NoMemory> {
     c.has_call = true;
+    if !are_typed(&args) {
+        return c.unknown(place);
+    }
     let f = single_value(c, f)?;
     if f.is_unknown() {
         return c.unknown(place);

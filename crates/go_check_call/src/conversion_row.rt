@@ -1,5 +1,6 @@
 //! Calls of types. Go, "Conversions".
 
+use crate::calls::are_typed;
 use gj_base::{NoMemory, Place};
 use go_check_operand::conversion::conversion;
 use go_check_state::{Checker, FaultCode, Operand};
@@ -13,6 +14,9 @@ pub fn conversion_call(
     args: &Vec<Operand>,
     dots: bool,
 ) -> Result<Operand, NoMemory> {
+    if !are_typed(args) {
+        return c.unknown(place);
+    }
     match args.first().copied() {
         Some(x) if args.len() == 1 && !dots => {
             if !c.need(t)? {

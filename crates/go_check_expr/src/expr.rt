@@ -237,11 +237,12 @@ fn list_type(c: &mut Checker, e: &Expr, around: Around) -> Result<Operand, NoMem
 fn reference_type(c: &mut Checker, e: &Expr) -> Result<Operand, NoMemory> {
     match &*e.form {
         ExprForm::MapT(key, of) => {
+            let at = key.place;
             let key = operand(c, key, DIRECT)?;
             let key = wanted_type(c, key, true)?;
             let of = operand(c, of, NOTHING)?;
             let of = wanted_type(c, of, false)?;
-            let t = map_type(c, e.place, key, of)?;
+            let t = map_type(c, at, key, of)?;
             type_operand(c, e.place, t)
         }
         ExprForm::ChanT(dir, of) => {

@@ -55,6 +55,8 @@ pub struct Building {
     seen: u32,
     first: u32,
     known: bool,
+    /// Whether a value isn't typed, of whatever type it is to be.
+    untyped: bool,
     /// The index or the key, and the value, of each element.
     list: Vec<u32>,
     /// The fields or indexes that have a value, but for the first elements without keys.
@@ -88,6 +90,7 @@ pub fn begin(c: &Checker, place: Place, t: TypeId, counts: bool) -> Building {
         seen: 0,
         first: 0,
         known: true,
+        untyped: false,
         list: Vec::new(c.alloc),
         taken: BTreeSet::new(c.alloc),
         numbers: BTreeSet::new(c.alloc),
@@ -353,6 +356,7 @@ fn add(
             }
         }
     }
+    b.untyped |= x.is_unknown();
     let x = assignment(c, x, wanted)?;
     b.known = b.known && at.is_some() && !x.is_unknown();
     let at = at.unwrap_or(u32::MAX);
@@ -389,7 +393,7 @@ pub fn end(c: &mut Checker, b: &Building) -> Result<Operand, NoMemory> {
     let few = head.kind == Kind::Struct && b.keyed == Some(false) && b.seen < head.limit;
     let bare = head.kind == Kind::Map && b.keyed == Some(false);
     let none = head.kind == Kind::Nothing && is_known(c, head.ty);
-    if few || bare || none {
+    if !b.untyped && (few || bare || none) {
         return c.fail(FaultCode::BadLiteral, head.place);
     }
     let ty = match head.kind {

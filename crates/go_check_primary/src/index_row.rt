@@ -17,7 +17,7 @@ pub fn index_row(
     i: Operand,
 ) -> Result<Operand, NoMemory> {
     let x = single_value(c, x)?;
-    if x.is_unknown() {
+    if x.is_unknown() || i.is_unknown() {
         return c.unknown(place);
     }
     if c.is_string(x.ty) {
@@ -208,6 +208,11 @@ fn is_unknown(x: Option<Operand>) -> bool {
     }
 }
 
+// Whether a bound isn't typed.
+fn are_unknown(low: Option<Operand>, high: Option<Operand>, max: Option<Operand>) -> bool {
+    is_unknown(low) || is_unknown(high) || is_unknown(max)
+}
+
 fn node_of(x: Option<Operand>) -> Option<NodeId> {
     match x {
         Some(x) => Some(x.node),
@@ -225,7 +230,7 @@ pub fn slice_row(
     max: Option<Operand>,
 ) -> Result<Operand, NoMemory> {
     let x = single_value(c, x)?;
-    if x.is_unknown() {
+    if x.is_unknown() || are_unknown(low, high, max) {
         return c.unknown(place);
     }
     let Some((t, limit, is_text)) = sliced(c, x)? else {
@@ -238,7 +243,7 @@ pub fn slice_row(
     let low = bound(c, low, limit, &mut least)?;
     let high = bound(c, high, limit, &mut least)?;
     let max = bound(c, max, limit, &mut least)?;
-    if is_unknown(low) || is_unknown(high) || is_unknown(max) {
+    if are_unknown(low, high, max) {
         return c.unknown(place);
     }
     let Some((from, operand)) = slice_operand(c, x)? else {

@@ -331,7 +331,7 @@ pub fn address_of(c: &mut Checker, place: Place, x: Operand) -> Result<Operand, 
             let ty = c.pointer_to(x.ty)?;
             c.value(place, ty, Node::Address { ty, place: at })
         }
-        _ => c.fail(FaultCode::NotAddressable, place),
+        _ => c.fail(FaultCode::NotAddressable, x.place),
     }
 }
 

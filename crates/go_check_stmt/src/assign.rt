@@ -4,6 +4,7 @@
 use crate::hold::{declare, hold, hold_place, nothing, sequence, store_one};
 use crate::sides::{Left, Sides, assigned, converted, right_sides, store_sides};
 use gj_base::{NoMemory, Op, Place};
+use go_check_call::calls::are_typed;
 use go_check_expr::expr::expr;
 use go_check_operand::assignment::default_value;
 use go_check_operand::binary::binary;
@@ -274,7 +275,11 @@ pub fn define(
     let Some(names) = names else {
         return nothing(c);
     };
-    if !names.iter().any(|l| l.old.is_none() && l.name != BLANK) {
+    let typed = match &sides {
+        Some(sides) => are_typed(&sides.values),
+        None => true,
+    };
+    if typed && !names.iter().any(|l| l.old.is_none() && l.name != BLANK) {
         c.fault(FaultCode::BadDefine, place)?;
     }
     let sides = match sides {

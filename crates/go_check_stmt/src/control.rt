@@ -4,6 +4,7 @@ use crate::frame::Frame;
 use crate::hold::{both, nothing};
 use crate::sides::{Sides, as_type, exprs, one_each, return_sides};
 use gj_base::{NoMemory, Place};
+use go_check_call::calls::are_typed;
 use go_check_expr::expr::expr;
 use go_check_operand::assignment::{default_value, single_value};
 use go_check_state::node::{NodeId, StmtId, StmtNode};
@@ -17,7 +18,7 @@ pub fn condition(c: &mut Checker, e: &Expr) -> Result<NodeId, NoMemory> {
     if x.is_unknown() {
         return Ok(x.node);
     }
-    if x.is_nil() || !c.is_boolean(x.ty) {
+    if !x.is_nil() && !c.is_boolean(x.ty) {
         c.fault(FaultCode::NotBoolean, e.place)?;
         return Ok(x.node);
     }
@@ -113,6 +114,7 @@ pub fn return_stmt(
     list: &Vec<Expr>,
 ) -> Result<StmtId, NoMemory> {
     let values = exprs(c, list)?;
+    let typed = are_typed(&values);
     let count = f.results.len();
     let Shape::Func(_, _, _) = c.shape(f.sig) else {
         return nothing(c);
@@ -125,7 +127,9 @@ pub fn return_stmt(
         return c.nodes.stmt(StmtNode::Return(none));
     }
     let Some(sides) = returned(c, values, count)? else {
-        c.fault(FaultCode::WrongResultCount, place)?;
+        if typed {
+            c.fault(FaultCode::WrongResultCount, place)?;
+        }
         return nothing(c);
     };
     let mut values: Vec<Operand> = Vec::new(c.alloc);

@@ -28,7 +28,7 @@ pub fn send(
     let x = expr(c, e)?;
     let y = expr(c, right)?;
     let x = single_value(c, x)?;
-    if x.is_unknown() {
+    if x.is_unknown() || y.is_unknown() {
         return nothing(c);
     }
     match c.shape(x.ty) {
@@ -178,15 +178,18 @@ fn refuse(
     left: &Vec<Expr>,
     right: &Vec<Expr>,
 ) -> Result<CommRow, NoMemory> {
+    let mut typed = true;
     for e in left {
         if !crate::assign::is_blank(e) {
-            expr(c, e)?;
+            typed &= !expr(c, e)?.is_unknown();
         }
     }
     for e in right {
-        expr(c, e)?;
+        typed &= !expr(c, e)?.is_unknown();
     }
-    c.fault(FaultCode::BadCommunication, place)?;
+    if typed {
+        c.fault(FaultCode::BadCommunication, place)?;
+    }
     let row = nothing(c)?;
     alone(c, row)
 }

@@ -111,18 +111,18 @@ fn may_start(called: Called) -> bool {
     }
 }
 
-/// `go f(x)` or `defer f(x)`: F96 at all but a call.
+/// `go f(x)` or `defer f(x)`: F96 at a typed expression that is no call.
 pub fn start(c: &mut Checker, place: Place, e: &Expr, defers: bool) -> Result<StmtId, NoMemory> {
     let is_call = match &*e.form {
         ExprForm::Call(callee, _, _) => may_start(what_is_called(c, callee)?),
         _ => false,
     };
     let x = expr(c, e)?;
-    if !is_call {
-        c.fault(FaultCode::NotACall, place)?;
+    if x.is_unknown() {
         return nothing(c);
     }
-    if x.is_unknown() {
+    if !is_call {
+        c.fault(FaultCode::NotACall, e.place)?;
         return nothing(c);
     }
     let mut parts: Vec<u32> = Vec::new(c.alloc);

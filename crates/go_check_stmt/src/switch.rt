@@ -14,6 +14,9 @@ use go_syntax::tree::{Clause, Expr, Name, Stmt, StmtForm};
 use go_type::predeclared::BOOL;
 use go_type::types::TypeId;
 
+/// How many cases a switch may have.
+const MOST_CASES: usize = 1000;
+
 /// A switch so far: its operand, its tests and clauses, and the cases that were there.
 #[derive(Drop)]
 pub struct Switch {
@@ -63,7 +66,7 @@ fn count_clauses(c: &mut Checker, place: Place, clauses: &Vec<Clause>) -> Result
         }
         cases = cases.saturating_add(clause.exprs.len());
     }
-    if cases > 1000 || clauses.len() > 1000 {
+    if cases > MOST_CASES || clauses.len() > MOST_CASES {
         c.fault(FaultCode::TooManyParts, place)?;
     }
     Ok(())
@@ -126,7 +129,11 @@ impl Switch {
 // The number of the clause that comes next.
 fn next_clause(g: &Switch) -> u32 {
     let number = g.clauses.len() / 2;
-    if number > 1000 { 1000 } else { number as u32 }
+    if number > MOST_CASES {
+        1000
+    } else {
+        number as u32
+    }
 }
 
 /// The cases of the next clause.
@@ -158,7 +165,9 @@ fn case(c: &mut Checker, g: &mut Switch, e: &Expr) -> Result<(), NoMemory> {
     {
         return c.fault(FaultCode::DuplicateCase, e.place);
     }
-    g.consts.push((id, t))?;
+    if g.consts.len() < MOST_CASES {
+        g.consts.push((id, t))?;
+    }
     Ok(())
 }
 
@@ -351,7 +360,9 @@ fn type_test(c: &mut Checker, g: &mut Switch, place: Place, t: TypeId) -> Result
     if g.types.iter().any(|other| other.0 == t.0) {
         return c.fault(FaultCode::DuplicateCase, place);
     }
-    g.types.push(t)?;
+    if g.types.len() < MOST_CASES {
+        g.types.push(t)?;
+    }
     if g.x.is_unknown() {
         return Ok(());
     }
