@@ -11,7 +11,6 @@ import re
 import subprocess
 import sys
 
-UNBUILT = "form not built yet"
 # ours alone: outside the profile, or a limit of our own
 OURS = ["not in the profile", "constant outside 128 bits", "wrong use of package main"]
 # what go/types alone refuses, or refuses for another reason: a bound of its own for counts, another thing named `main`
@@ -28,7 +27,7 @@ def asked(types, folder, names):
 
 
 def built(program, folder, name):
-    """What `build` tells: nothing, or (line, text).  That the check passed and the program isn't plain is nothing."""
+    """What `build` tells: nothing, or (line, text)."""
     ran = subprocess.run([program, "build", name], cwd=folder, stderr=subprocess.PIPE, text=True)
     if ran.returncode == 0:
         return None
@@ -36,7 +35,7 @@ def built(program, folder, name):
     if ran.returncode != 1 or not found:
         sys.exit("%s: status %d, %s" % (name, ran.returncode, ran.stderr.strip()))
     line, column, text = int(found[1]), int(found[2]), found[3]
-    return None if text == UNBUILT and (line, column) == (1, 1) else (line, text)
+    return (line, text)
 
 
 def compiled(folder, name):
@@ -59,7 +58,7 @@ def same_place(ours, theirs, strict):
 
 def verdict(ours, theirs, strict, first_compiled):
     """How the two agree, or after a `!` how they differ."""
-    if ours and ours[1] in [UNBUILT] + OURS:
+    if ours and ours[1] in OURS:
         return "unbuilt, or ours alone"
     if any(text == "go/types ended" or any(word in text for word in THEIRS) for _, text in theirs):
         return "theirs alone"

@@ -6,13 +6,12 @@ import sys
 import tempfile
 
 TOO_MANY = "main.go:65538:1: too many functions"
-UNBUILT = "main.go:1:1: form not built yet"
 FAULTY = "main.go:65540:16: constant does not fit its type"
 
 # `main` stands in line 3, the others from line 4 on: with 65534 of them before it, the last one is the 65536th and stands in
 # line 65538. The compiler makes two functions more, which count where nothing else is told.
 ROWS = [
-    ("no more than may be", 65531, "func _() { }", "", UNBUILT),
+    ("no more than may be", 65531, "func _() { }", "", ""),
     ("too many with the two of the compiler", 65532, "func _() { }", "", "main.go:1:1: too many functions"),
     ("one too many in the text", 65534, "func _() { }", "", TOO_MANY),
     ("one too many, with a result", 65534, "func _() int { return 1 }", "", TOO_MANY),
