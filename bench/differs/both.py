@@ -18,7 +18,7 @@ import tempfile
 sys.dont_write_bytecode = True
 from trees import trees
 
-FIRST, TEXT = "app/!.go", "package main\n\nvar _ struct{}\n"
+FIRST, TEXT = "app/!.go", "package %s\n\nvar _ struct{}\n"
 
 
 def programs(folders):
@@ -55,7 +55,9 @@ def main():
     counts = collections.Counter()
 
     def compared(it):
-        return it[0], built(program, it[1]), built(program, {**it[1], FIRST: TEXT})
+        clauses = [re.search(r"(?m)^package ([A-Za-z_]\w*)", text) for path, text in sorted(it[1].items()) if path.startswith("app/")]
+        package = clauses[0][1] if clauses and clauses[0] else "main"
+        return it[0], built(program, it[1]), built(program, {**it[1], FIRST: TEXT % package})
 
     with concurrent.futures.ThreadPoolExecutor(2) as pool:
         for name, one, other in pool.map(compared, programs(sys.argv[2:])):

@@ -2,7 +2,7 @@
 """usage: mutated.py PROGRAM [SEED [COUNT]]
 
 Builds COUNT programs that are those of crates/cases/data and examples with one to four tokens deleted, doubled, swapped or
-replaced, and looks at each answer: a script, or one line that tells a fault at a place of a file that is there. What was made
+replaced, often by one of their kind, and looks at each answer: a script, or one line that tells a fault at a place of a file that is there. What was made
 must be a script for node. Ends with status 1 where an answer is another one, or none within a minute, and leaves such programs in
 the folder that it names.
 """
@@ -40,13 +40,15 @@ def changed(choose, text):
         if not places:
             return text
         at, other = choose.choice(places), choose.choice(places)
-        how = choose.choice(["delete", "double", "swap", "own", "own", "more"])
+        how = choose.choice(["delete", "double", "swap", "own", "more", "alike", "alike", "alike"])
         if how == "delete":
             words[at] = ""
         elif how == "double":
             words[at] += " " + words[at]
         elif how == "swap":
             words[at], words[other] = words[other], words[at]
+        elif how == "alike":
+            words[at] = choose.choice([name for name in names if name.isidentifier() == words[at].isidentifier()] or names)
         else:
             words[at] = choose.choice(names if how == "own" else MORE)
     return "".join(words)
