@@ -1,5 +1,10 @@
 //! The expression of an operation.
 
+ghost use Rattle.js_tree.specs.Script.{Exprs};
+ghost use Rattle.js_pool.specs.Stands.{Stands, AllStand, Keeps, Later, Builds1, Sees2};
+ghost use Rattle.js_pool.specs.declared.pool.Pool.{Pool};
+ghost use Rattle.js_int.specs.Operation.{unary_tree, binary_tree, lower_tree};
+
 use crate::convert::convert;
 use crate::kinds::is_wide;
 use crate::{small, wide};
@@ -9,7 +14,9 @@ use js_pool::{ExprId, Pool};
 /// An operator on operands of a kind, one or two of them, each a name or a constant: an operand may
 /// stand more than once in what is made. The count of a shift has 32 bits and no sign. What is no
 /// operator on integers gives the first operand.
-pub fn lower(p: &mut Pool, op: Op, kind: Kind, operands: &[ExprId]) -> ExprId {
+pub fn lower(p: &mut Pool, op: Op, kind: Kind, operands: &[ExprId]) -> ExprId
+    ensures { Keeps p.old p.new × ((end : Pool) → Later p.new end → (ts : Exprs) → AllStand end operands.now ts → AllStand p.old operands.now ts → Stands end result (lower_tree op kind ts)) }
+{
     match operands {
         [a] => unary(p, op, kind, *a),
         [a, b, ..] => binary(p, op, kind, *a, *b),
@@ -18,7 +25,9 @@ pub fn lower(p: &mut Pool, op: Op, kind: Kind, operands: &[ExprId]) -> ExprId {
 }
 
 /// An operator on one operand.
-pub fn unary(p: &mut Pool, op: Op, kind: Kind, x: ExprId) -> ExprId {
+pub fn unary(p: &mut Pool, op: Op, kind: Kind, x: ExprId) -> ExprId
+    ensures { Builds1 p.old p.new result x (unary_tree op kind) }
+{
     match op {
         Op::To(to) => convert(p, kind, to, x),
         _ => {
@@ -31,7 +40,9 @@ pub fn unary(p: &mut Pool, op: Op, kind: Kind, x: ExprId) -> ExprId {
 }
 
 /// An operator on two operands.
-pub fn binary(p: &mut Pool, op: Op, kind: Kind, x: ExprId, y: ExprId) -> ExprId {
+pub fn binary(p: &mut Pool, op: Op, kind: Kind, x: ExprId, y: ExprId) -> ExprId
+    ensures { Sees2 p.old p.new result x y (binary_tree op kind) }
+{
     if is_wide(kind) {
         return wide::binary(p, op, kind, x, y);
     }
