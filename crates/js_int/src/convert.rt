@@ -1,12 +1,17 @@
 //! Conversions between kinds of integers. Go specification, "Conversions between numeric types".
 
+ghost use Rattle.js_pool.specs.Stands.{Builds1};
+ghost use Rattle.js_int.specs.Convert.{widened_tree, narrowed_tree, convert_tree};
+
 use crate::kinds::{is_signed, is_wide, lies_in};
 use crate::small::wrapped;
 use gj_base::Kind;
 use js_pool::{ExprId, Pool};
 
 // The halves of a number of up to 32 bits.
-fn widened(p: &mut Pool, from: Kind, x: ExprId) -> ExprId {
+fn widened(p: &mut Pool, from: Kind, x: ExprId) -> ExprId
+    ensures { Builds1 p.old p.new result x (widened_tree «from») }
+{
     let none = p.num(0);
     if !is_signed(from) {
         return p.pair(none, x);
@@ -19,7 +24,9 @@ fn widened(p: &mut Pool, from: Kind, x: ExprId) -> ExprId {
 }
 
 // The low half of a number of 64 bits, modulo the width.
-fn narrowed(p: &mut Pool, to: Kind, x: ExprId) -> ExprId {
+fn narrowed(p: &mut Pool, to: Kind, x: ExprId) -> ExprId
+    ensures { Builds1 p.old p.new result x (narrowed_tree to) }
+{
     let low = p.at(x, 1);
     match to {
         Kind::U32 => low,
@@ -28,7 +35,9 @@ fn narrowed(p: &mut Pool, to: Kind, x: ExprId) -> ExprId {
 }
 
 /// A number of one kind as one of another.
-pub fn convert(p: &mut Pool, from: Kind, to: Kind, x: ExprId) -> ExprId {
+pub fn convert(p: &mut Pool, from: Kind, to: Kind, x: ExprId) -> ExprId
+    ensures { Builds1 p.old p.new result x (convert_tree «from» to) }
+{
     if is_wide(from) {
         if is_wide(to) {
             return x;

@@ -1,9 +1,14 @@
 //! Kinds of integers.
 
+ghost use Rattle.std.specs.Prelude.{◌≡◌};
+ghost use Rattle.js_int.specs.Kinds.{has_sign, has_halves, bits_in, lies_within};
+
 use gj_base::Kind;
 
 /// Whether a kind has a sign.
-pub fn is_signed(kind: Kind) -> bool {
+pub fn is_signed(kind: Kind) -> bool
+    ensures { result ≡ has_sign kind }
+{
     match kind {
         Kind::I8 | Kind::I16 | Kind::I32 | Kind::I64 => true,
         Kind::U8 | Kind::U16 | Kind::U32 | Kind::U64 => false,
@@ -11,7 +16,9 @@ pub fn is_signed(kind: Kind) -> bool {
 }
 
 /// Whether a kind has 64 bits.
-pub fn is_wide(kind: Kind) -> bool {
+pub fn is_wide(kind: Kind) -> bool
+    ensures { result ≡ has_halves kind }
+{
     match kind {
         Kind::I64 | Kind::U64 => true,
         _ => false,
@@ -19,7 +26,9 @@ pub fn is_wide(kind: Kind) -> bool {
 }
 
 /// How many bits a kind has.
-pub fn width(kind: Kind) -> u32 {
+pub fn width(kind: Kind) -> u32
+    ensures { result ≡ bits_in kind }
+{
     match kind {
         Kind::I8 | Kind::U8 => 8,
         Kind::I16 | Kind::U16 => 16,
@@ -29,9 +38,14 @@ pub fn width(kind: Kind) -> u32 {
 }
 
 /// Whether each number of a kind is one of another.
-pub fn lies_in(from: Kind, to: Kind) -> bool {
-    if is_signed(from) == is_signed(to) {
-        return width(from) <= width(to);
+pub fn lies_in(from: Kind, to: Kind) -> bool
+    ensures { result ≡ lies_within «from» to }
+{
+    if is_signed(from) {
+        return is_signed(to) && width(from) <= width(to);
     }
-    is_signed(to) && width(from) < width(to)
+    if is_signed(to) {
+        return width(from) < width(to);
+    }
+    width(from) <= width(to)
 }

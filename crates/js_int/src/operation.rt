@@ -1,5 +1,8 @@
 //! The expression of an operation.
 
+ghost use Rattle.js_pool.specs.Stands.{Builds1};
+ghost use Rattle.js_int.specs.Operation.{unary_tree};
+
 use crate::convert::convert;
 use crate::kinds::is_wide;
 use crate::{small, wide};
@@ -18,7 +21,9 @@ pub fn lower(p: &mut Pool, op: Op, kind: Kind, operands: &[ExprId]) -> ExprId {
 }
 
 /// An operator on one operand.
-pub fn unary(p: &mut Pool, op: Op, kind: Kind, x: ExprId) -> ExprId {
+pub fn unary(p: &mut Pool, op: Op, kind: Kind, x: ExprId) -> ExprId
+    ensures { Builds1 p.old p.new result x (unary_tree op kind) }
+{
     match op {
         Op::To(to) => convert(p, kind, to, x),
         _ => {

@@ -1,24 +1,33 @@
 //! Numbers of 64 bits: an array of the high half and the low one.
 
+ghost use Rattle.js_pool.specs.Stands.{Builds1, Builds2};
+ghost use Rattle.js_int.specs.Wide.{half_tree, bits_at_tree, half_bits_tree, wide_bits_tree, compared_at_tree, equal_tree, unequal_tree, ordered_tree, wide_compared_tree, signed_call_tree, wide_unary_tree, wide_not_tree, not_at_tree};
+
 use crate::kinds::is_signed;
 use gj_base::{Kind, Op};
 use js_pool::{ExprId, Pool};
 use js_tree::BinaryOp;
 
 // Bits as a half.
-fn half(p: &mut Pool, z: ExprId) -> ExprId {
+fn half(p: &mut Pool, z: ExprId) -> ExprId
+    ensures { Builds1 p.old p.new result z half_tree }
+{
     let none = p.num(0);
     p.shift_right_unsigned(z, none)
 }
 
-fn bits_at(p: &mut Pool, op: Op, x: ExprId, y: ExprId, i: u64) -> ExprId {
+fn bits_at(p: &mut Pool, op: Op, x: ExprId, y: ExprId, i: u64) -> ExprId
+    ensures { Builds2 p.old p.new result x y (bits_at_tree op i) }
+{
     let a = p.at(x, i);
     let b = p.at(y, i);
     let z = half_bits(p, op, a, b);
     half(p, z)
 }
 
-fn half_bits(p: &mut Pool, op: Op, a: ExprId, b: ExprId) -> ExprId {
+fn half_bits(p: &mut Pool, op: Op, a: ExprId, b: ExprId) -> ExprId
+    ensures { Builds2 p.old p.new result a b (half_bits_tree op) }
+{
     match op {
         Op::And => p.bit_and(a, b),
         Op::Or => p.bit_or(a, b),
@@ -31,38 +40,50 @@ fn half_bits(p: &mut Pool, op: Op, a: ExprId, b: ExprId) -> ExprId {
     }
 }
 
-fn bits(p: &mut Pool, op: Op, x: ExprId, y: ExprId) -> ExprId {
+fn bits(p: &mut Pool, op: Op, x: ExprId, y: ExprId) -> ExprId
+    ensures { Builds2 p.old p.new result x y (wide_bits_tree op) }
+{
     let high = bits_at(p, op, x, y, 0);
     let low = bits_at(p, op, x, y, 1);
     p.pair(high, low)
 }
 
-fn compared_at(p: &mut Pool, op: BinaryOp, x: ExprId, y: ExprId, i: u64) -> ExprId {
+fn compared_at(p: &mut Pool, op: BinaryOp, x: ExprId, y: ExprId, i: u64) -> ExprId
+    ensures { Builds2 p.old p.new result x y (compared_at_tree op i) }
+{
     let a = p.at(x, i);
     let b = p.at(y, i);
     p.two(op, a, b)
 }
 
-fn equal(p: &mut Pool, x: ExprId, y: ExprId) -> ExprId {
+fn equal(p: &mut Pool, x: ExprId, y: ExprId) -> ExprId
+    ensures { Builds2 p.old p.new result x y equal_tree }
+{
     let low = compared_at(p, BinaryOp::Same, x, y, 1);
     let high = compared_at(p, BinaryOp::Same, x, y, 0);
     p.both(low, high)
 }
 
-fn unequal(p: &mut Pool, x: ExprId, y: ExprId) -> ExprId {
+fn unequal(p: &mut Pool, x: ExprId, y: ExprId) -> ExprId
+    ensures { Builds2 p.old p.new result x y unequal_tree }
+{
     let low = compared_at(p, BinaryOp::Different, x, y, 1);
     let high = compared_at(p, BinaryOp::Different, x, y, 0);
     p.either(low, high)
 }
 
-fn ordered(p: &mut Pool, op: BinaryOp, kind: Kind, x: ExprId, y: ExprId) -> ExprId {
+fn ordered(p: &mut Pool, op: BinaryOp, kind: Kind, x: ExprId, y: ExprId) -> ExprId
+    ensures { Builds2 p.old p.new result x y (ordered_tree op kind) }
+{
     let sign = p.truth(is_signed(kind));
     let order = p.call3(b"$cmp64", x, y, sign);
     let none = p.num(0);
     p.two(op, order, none)
 }
 
-fn compared(p: &mut Pool, op: Op, kind: Kind, x: ExprId, y: ExprId) -> ExprId {
+fn compared(p: &mut Pool, op: Op, kind: Kind, x: ExprId, y: ExprId) -> ExprId
+    ensures { Builds2 p.old p.new result x y (wide_compared_tree op kind) }
+{
     match op {
         Op::Eq => equal(p, x, y),
         Op::Ne => unequal(p, x, y),
@@ -74,7 +95,9 @@ fn compared(p: &mut Pool, op: Op, kind: Kind, x: ExprId, y: ExprId) -> ExprId {
 }
 
 // A call of a function that must know whether numbers have a sign.
-fn signed_call(p: &mut Pool, word: &'static [u8], kind: Kind, x: ExprId, y: ExprId) -> ExprId {
+fn signed_call(p: &mut Pool, word: &'static [u8], kind: Kind, x: ExprId, y: ExprId) -> ExprId
+    ensures { Builds2 p.old p.new result x y (signed_call_tree word.now kind) }
+{
     let sign = p.truth(is_signed(kind));
     p.call3(word, x, y, sign)
 }
@@ -89,13 +112,18 @@ pub fn binary(p: &mut Pool, op: Op, kind: Kind, x: ExprId, y: ExprId) -> ExprId 
         Op::Rem => signed_call(p, b"$mod64", kind, x, y),
         Op::Shl => p.call2(b"$shl64", x, y),
         Op::Shr => signed_call(p, b"$shr64", kind, x, y),
-        Op::And | Op::Or | Op::Xor | Op::AndNot => bits(p, op, x, y),
+        Op::And => bits(p, op, x, y),
+        Op::Or => bits(p, op, x, y),
+        Op::Xor => bits(p, op, x, y),
+        Op::AndNot => bits(p, op, x, y),
         _ => compared(p, op, kind, x, y),
     }
 }
 
 /// An operation on one number.
-pub fn unary(p: &mut Pool, op: Op, x: ExprId) -> ExprId {
+pub fn unary(p: &mut Pool, op: Op, x: ExprId) -> ExprId
+    ensures { Builds1 p.old p.new result x (wide_unary_tree op) }
+{
     match op {
         Op::Neg => {
             let none = p.num(0);
@@ -107,13 +135,17 @@ pub fn unary(p: &mut Pool, op: Op, x: ExprId) -> ExprId {
     }
 }
 
-fn not_bits(p: &mut Pool, x: ExprId) -> ExprId {
+fn not_bits(p: &mut Pool, x: ExprId) -> ExprId
+    ensures { Builds1 p.old p.new result x wide_not_tree }
+{
     let high = not_bits_at(p, x, 0);
     let low = not_bits_at(p, x, 1);
     p.pair(high, low)
 }
 
-fn not_bits_at(p: &mut Pool, x: ExprId, i: u64) -> ExprId {
+fn not_bits_at(p: &mut Pool, x: ExprId, i: u64) -> ExprId
+    ensures { Builds1 p.old p.new result x (not_at_tree i) }
+{
     let z = p.at(x, i);
     let z = p.complement(z);
     half(p, z)

@@ -1,5 +1,9 @@
 //! The tables.
 
+ghost use Rattle.std.specs.Prelude.{◌≡◌, ◌≤◌, ◌-◌, true, length, IfSome};
+ghost use Rattle.js_tree.specs.Script.{Expr};
+ghost use Rattle.js_pool.specs.Stands.{Keeps, opened, MakesNode, MakesBytes, MakesList, Stands, Shows, AddsItem, ClosesList, Puts, ClosesBytes};
+
 use crate::name::{Name, decimal};
 use crate::node::{Block, Bytes, Case, Cases, ExprId, Item, Names, Node, Span, Stmt};
 use std::alloc::Global;
@@ -32,7 +36,9 @@ pub struct Pool {
 pub struct Mark(usize);
 
 // The length of a table as the number of what comes next, where there is room.
-fn next_number(len: usize) -> Option<u32> {
+fn next_number(len: usize) -> Option<u32>
+    ensures { IfSome result (λ n. n ≡ len) }
+{
     if len < 4294967295 {
         Some(len as u32)
     } else {
@@ -60,23 +66,50 @@ impl Pool {
         }
     }
 
+    // Memory ran out.
+    fn fail(&mut self)
+        ensures { (self.new.failed ≡ true) × (opened self.new ≡ opened self.old) }
+    {
+        self.failed = true;
+    }
+
     // ---- expressions
 
     /// Adds an expression.
-    pub fn add(&mut self, node: Node) -> ExprId {
-        let Some(n) = next_number(self.nodes.len()) else {
-            self.failed = true;
-            return ExprId(0);
-        };
-        if self.failed || self.nodes.push(node).is_err() {
-            self.failed = true;
+    pub fn add(&mut self, node: Node) -> ExprId
+        ensures keeps { Keeps self.old self.new }
+        ensures makes { MakesNode self.new result node }
+    {
+        if self.failed {
             return ExprId(0);
         }
-        ExprId(n)
+        match next_number(self.nodes.len()) {
+            Some(n) => self.add_at(n, node),
+            None => {
+                self.fail();
+                ExprId(0)
+            }
+        }
+    }
+
+    fn add_at(&mut self, n: u32, node: Node) -> ExprId
+        ensures keeps { Keeps self.old self.new }
+        ensures makes { n ≡ length self.old.nodes.items → MakesNode self.new result node }
+    {
+        match self.nodes.push(node) {
+            Ok(()) => ExprId(n),
+            Err(_) => {
+                self.fail();
+                ExprId(0)
+            }
+        }
     }
 
     /// The expression with a number; `null` where there is none.
-    pub fn node(&self, id: ExprId) -> Node {
+    #[tactic(auto, using(crate::proofs::Nodes::shown))]
+    pub fn node(&self, id: ExprId) -> Node
+        ensures { (t : Expr) → Stands self.now id t → Shows self.now result t }
+    {
         match self.nodes.get(id.0 as usize) {
             Some(node) => *node,
             None => Node::Null,
@@ -84,84 +117,134 @@ impl Pool {
     }
 
     /// These expressions in order.
-    pub fn list(&mut self, items: &[ExprId]) -> Span {
+    pub fn list(&mut self, items: &[ExprId]) -> Span
+        ensures keeps { Keeps self.old self.new }
+        ensures makes { MakesList self.new result items.now }
+    {
         let from = next_number(self.lists.len());
         let many = next_number(items.len());
-        let (Some(from), Some(many)) = (from, many) else {
-            self.failed = true;
-            return Span { from: 0, many: 0 };
-        };
-        if self.lists.extend_from_slice(items).is_err() {
-            self.failed = true;
+        match (from, many) {
+            (Some(from), Some(many)) => self.list_at(from, many, items),
+            _ => {
+                self.fail();
+                Span { from: 0, many: 0 }
+            }
         }
-        Span { from, many }
+    }
+
+    fn list_at(&mut self, from: u32, many: u32, items: &[ExprId]) -> Span
+        ensures keeps { Keeps self.old self.new }
+        ensures makes { «from» ≡ length self.old.lists.items → many ≡ length items.now → MakesList self.new result items.now }
+    {
+        match self.lists.extend_from_slice(items) {
+            Ok(()) => Span { from, many },
+            Err(_) => {
+                self.fail();
+                Span { from, many }
+            }
+        }
     }
 
     /// Begins a list of expressions, which `item` adds to.
-    pub fn open_list(&self) -> Mark {
+    pub fn open_list(&self) -> Mark
+        ensures { result.0 ≡ length (opened self.now).rest }
+    {
         Mark(self.rest.len())
     }
 
     /// One more expression of the innermost open list.
-    pub fn item(&mut self, e: ExprId) {
-        if self.rest.push(e).is_err() {
-            self.failed = true;
+    pub fn item(&mut self, e: ExprId)
+        ensures { AddsItem self.old self.new e }
+    {
+        match self.rest.push(e) {
+            Ok(()) => {}
+            Err(_) => self.fail(),
         }
     }
 
     /// The expressions since a list was opened.
-    pub fn close_list(&mut self, mark: Mark) -> Span {
+    pub fn close_list(&mut self, mark: Mark) -> Span
+        ensures { ClosesList self.old self.new mark.0 result }
+    {
         let begun = mark.0.min(self.rest.len());
         let from = next_number(self.lists.len());
         let many = next_number(self.rest.len() - begun);
-        let (Some(from), Some(many)) = (from, many) else {
-            self.failed = true;
-            return Span { from: 0, many: 0 };
-        };
-        if self.lists.extend_from_slice(&self.rest[begun..]).is_err() {
-            self.failed = true;
+        match (from, many) {
+            (Some(from), Some(many)) => self.move_items(begun, from, many),
+            _ => {
+                self.fail();
+                Span { from: 0, many: 0 }
+            }
         }
-        self.rest.truncate(begun);
-        Span { from, many }
+    }
+
+    fn move_items(&mut self, begun: usize, from: u32, many: u32) -> Span
+        requires { begun ≤ length self.now.rest.items }
+        ensures { «from» ≡ length self.old.lists.items → many ≡ length self.old.rest.items - begun → ClosesList self.old self.new begun result }
+    {
+        match self.lists.extend_from_slice(&self.rest[begun..]) {
+            Ok(()) => {
+                self.rest.truncate(begun);
+                Span { from, many }
+            }
+            Err(_) => {
+                self.fail();
+                Span { from, many }
+            }
+        }
     }
 
     // ---- bytes
 
     /// These bytes.
-    pub fn word(&mut self, word: &[u8]) -> Bytes {
+    pub fn word(&mut self, word: &[u8]) -> Bytes
+        ensures keeps { Keeps self.old self.new }
+        ensures makes { MakesBytes self.new result word.now }
+    {
         let mark = self.open_bytes();
         self.put(word);
         self.close_bytes(mark)
     }
 
     /// Begins a string, which `put` and `put_number` add to. One string is made at a time.
-    pub fn open_bytes(&self) -> Mark {
+    pub fn open_bytes(&self) -> Mark
+        ensures { result.0 ≡ length self.now.bytes.items }
+    {
         Mark(self.bytes.len())
     }
 
     /// Bytes at the end of the open string.
-    pub fn put(&mut self, word: &[u8]) {
-        if self.bytes.extend_from_slice(word).is_err() {
-            self.failed = true;
+    pub fn put(&mut self, word: &[u8])
+        ensures { Puts self.old self.new word.now }
+    {
+        match self.bytes.extend_from_slice(word) {
+            Ok(()) => {}
+            Err(_) => self.fail(),
         }
     }
 
     /// A decimal number at the end of the open string.
-    pub fn put_number(&mut self, n: u32) {
+    pub fn put_number(&mut self, n: u32)
+        ensures { Keeps self.old self.new }
+    {
         let room = &mut [0; 10];
         self.put(decimal(n, room));
     }
 
     /// The bytes since a string was begun.
-    pub fn close_bytes(&mut self, mark: Mark) -> Bytes {
+    pub fn close_bytes(&mut self, mark: Mark) -> Bytes
+        ensures { ClosesBytes self.old self.new mark.0 result }
+    {
         let begun = mark.0.min(self.bytes.len());
         let from = next_number(begun);
         let many = next_number(self.bytes.len() - begun);
-        let (Some(from), Some(many)) = (from, many) else {
-            self.failed = true;
-            return Bytes { from: 0, many: 0 };
-        };
-        Bytes { from, many }
+        match (from, many) {
+            (Some(from), Some(many)) => Bytes { from, many },
+            _ => {
+                self.fail();
+                Bytes { from: 0, many: 0 }
+            }
+        }
     }
 
     // ---- statements
