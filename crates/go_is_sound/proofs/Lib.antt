@@ -1,0 +1,3 @@
+pub mod RoundLemmas
+pub mod FieldLemmas
+pub mod SpecLemmas

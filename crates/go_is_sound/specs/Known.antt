@@ -1,0 +1,51 @@
+-- What a judge knows of its program.
+use Rattle.std.specs.Prelude.{◌≡◌, ℕ, List, Bool, true, false, Option, Some, All, slice_get}
+use Rattle.go_type.specs.Tree.{Ty, Tys}
+use Rattle.go_type.specs.Exported.{IsHeld}
+use Rattle.go_type.specs.Members.{Sought}
+use Rattle.go_type.specs.MethodSet.{HasMethod}
+use Rattle.go_type.specs.Levels.{tree_of, trees_of, specs_of}
+use Rattle.go_type.specs.Table.{places}
+use Rattle.go_type.specs.declared.types.MethodSpec.{MethodSpec}
+use Rattle.go_core.specs.CoreView.{program_view}
+use Rattle.go_core.specs.declared.program.Program.{Program}
+use Rattle.go_type.specs.declared.types.TypeId.{TypeId}
+use Rattle.go_core.specs.CoreTree.{MethodName, MethodRow, CoreFunc, CoreProgram}
+use Rattle.go_core.specs.TypeOf.{spec_in}
+use Rattle.go_core.specs.StepInterfaces.{row_of}
+use Rattle.go_core.specs.SoundNode.{IsGoodType, HasRow, HasRows, IsRowOf}
+use Rattle.go_is_sound.specs.declared.judge.Judge.{Judge}
+use Rattle.go_is_sound.specs.Around.{program_in, trees_in}
+
+-- each method of the type, by its name as it is selected, has its row
+abbrev pub HasHeldRows : CoreProgram → Ty → Type 0
+HasHeldRows p t =
+    (f : Sought) (params results : Tys) (variadic : Bool) → IsHeld f.name f.package_ → HasMethod p.names t f params results variadic → HasRow p t f params results variadic
+
+-- a method is found by a name with a package, also where the name is exported
+abbrev pub HeldSuffice : CoreProgram → Type 0
+HeldSuffice p = (t : Ty) → HasHeldRows p t → HasRows p t
+
+pub record Knows (j : Judge) : Type 0 where
+  pub types_fit : All (IsGoodType (program_in j)) (program_in j).types
+  pub is_method : (k : ℕ) → slice_get j.is_method.now k ≡ Some false → IsRowOf (program_in j) k → ⊥
+  pub has_rows : (t : TypeId) → slice_get j.has_rows.now t.0 ≡ Some true → HasRows (program_in j) (tree_of (trees_in j) t)
+
+-- the row of a method, and its function
+pub record Finds (p : CoreProgram) (n : MethodName) (f : CoreFunc) : Type 0 where
+  pub at : ℕ
+  pub row : MethodRow
+  pub found : row_of p n ≡ Some at
+  pub is_row : slice_get p.methods at ≡ Some row
+  pub is_function : slice_get p.funcs row.func ≡ Some f
+
+-- the method of the type has its row
+abbrev pub HasSpec : Program → TypeId → MethodSpec → Type 0
+HasSpec p t m =
+    let ts = places p.types in
+    HasRow (program_view p) (tree_of ts t) (record { name = m.name; package_ = m.package }) (trees_of ts m.sig.params) (trees_of ts m.sig.results) m.sig.variadic
+
+-- the method asked for is among the own ones, with its signature
+abbrev pub OwnsSpec : List MethodSpec → MethodSpec → Type 0
+OwnsSpec own m =
+    (ts : List Ty) → spec_in m.name m.package (specs_of ts own) ≡ Some (record { params = trees_of ts m.sig.params; results = trees_of ts m.sig.results; variadic = m.sig.variadic })

@@ -1,0 +1,6 @@
+pub mod Around
+pub mod Given
+pub mod Known
+pub mod Fields
+pub mod ListView
+pub mod Statements
