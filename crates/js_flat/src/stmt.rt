@@ -6,14 +6,13 @@ use crate::control::{
     branch, choose, choose_default, end_clause, end_labeled, end_loop, end_turn, skip, while_true,
 };
 use crate::ends::return_values;
-use go_core::node::CoreExpr;
 use go_core::statement::{
     Communication, CoreCases, CoreClauses, CoreStmt, CoreStmtForm, CoreStmts, CoreTest, Label,
 };
 use js_body::Body;
 use js_values::calls::defer_call;
 use js_values::expr::{expr, exprs};
-use js_values::ranges::{Range, begin_range, has_next, take_next};
+use js_values::ranges::{begin_range, has_next, take_next};
 use js_values::simple::{callee_and_operands, simple};
 
 /// Statements, first to last.
@@ -36,13 +35,35 @@ pub fn stmt<'p>(b: &mut Body<'p>, s: &'p CoreStmt) {
             condition,
             when_true,
             when_false,
-        } => if_else(b, condition, when_true, when_false),
+        } => {
+            expr(b, condition);
+            let other = skip(b);
+            stmts(b, when_true);
+            if when_false.items.is_empty() {
+                b.mark(other);
+                return;
+            }
+            let end = begin_else(b, other);
+            stmts(b, when_false);
+            b.mark(end);
+        }
         CoreStmtForm::Loop {
             label,
             condition,
             body,
             post,
-        } => turns(b, *label, condition, body, post),
+        } => {
+            let l = begin_loop(b);
+            if let Some(c) = condition {
+                expr(b, c);
+                while_true(b, l);
+            }
+            begin_turn(b, *label, l);
+            stmts(b, body);
+            end_turn(b, l);
+            stmts(b, post);
+            end_loop(b, l);
+        }
         CoreStmtForm::SwitchOn {
             label,
             tests,
@@ -53,14 +74,8 @@ pub fn stmt<'p>(b: &mut Body<'p>, s: &'p CoreStmt) {
             choices(b, tests.items.as_slice(), c);
             choose_default(b, c, *default);
             chosen(b, clauses, *label, c);
+            b.mark(c.end);
         }
-        _ => labeled_or_range(b, s),
-    }
-}
-
-#[cycle(stmt)]
-fn labeled_or_range<'p>(b: &mut Body<'p>, s: &'p CoreStmt) {
-    match &*s.form {
         CoreStmtForm::RangeNext {
             label,
             from,
@@ -71,7 +86,14 @@ fn labeled_or_range<'p>(b: &mut Body<'p>, s: &'p CoreStmt) {
         } => {
             expr(b, operand);
             let r = begin_range(b, *from, *key, *value);
-            range_turns(b, r, *label, body);
+            let l = begin_loop(b);
+            let test = has_next(b, r);
+            b.jump_unless(test, l.end);
+            take_next(b, r);
+            begin_turn(b, *label, l);
+            stmts(b, body);
+            end_turn(b, l);
+            end_loop(b, l);
         }
         CoreStmtForm::Labeled { label, body } => {
             let end = begin_labeled(b, *label);
@@ -85,64 +107,16 @@ fn labeled_or_range<'p>(b: &mut Body<'p>, s: &'p CoreStmt) {
             default,
         } => {
             communications(b, cases, *has_default);
-            selected(b, cases, *label, default);
+            let c = begin_clauses(b, cases.items.len());
+            jumps(b, cases.items.len(), c);
+            b.enter_label(*label, c.end, c.end);
+            stmts(b, default);
+            end_clause(b, c, false);
+            selected(b, cases, *label, c);
+            b.mark(c.end);
         }
         _ => other(b, s),
     }
-}
-
-// `if`
-#[cycle(stmt)]
-fn if_else<'p>(
-    b: &mut Body<'p>,
-    condition: &'p CoreExpr,
-    when_true: &'p CoreStmts,
-    when_false: &'p CoreStmts,
-) {
-    expr(b, condition);
-    let other = skip(b);
-    stmts(b, when_true);
-    if when_false.items.is_empty() {
-        b.mark(other);
-        return;
-    }
-    let end = begin_else(b, other);
-    stmts(b, when_false);
-    b.mark(end);
-}
-
-// The turns of a loop.
-#[cycle(stmt)]
-fn turns<'p>(
-    b: &mut Body<'p>,
-    label: Label,
-    condition: &'p Option<CoreExpr>,
-    body: &'p CoreStmts,
-    post: &'p CoreStmts,
-) {
-    let l = begin_loop(b);
-    if let Some(c) = condition {
-        expr(b, c);
-        while_true(b, l);
-    }
-    begin_turn(b, label, l);
-    stmts(b, body);
-    end_turn(b, l);
-    stmts(b, post);
-    end_loop(b, l);
-}
-
-// The turns of a range.
-#[cycle(stmt)]
-fn range_turns<'p>(b: &mut Body<'p>, r: Range, label: Label, body: &'p CoreStmts) {
-    let l = begin_loop(b);
-    let test = has_next(b, r);
-    b.jump_unless(test, l.end);
-    take_next(b, r);
-    begin_turn(b, label, l);
-    stmts(b, body);
-    end_turn(b, l);
-    end_loop(b, l);
 }
 
 // The clauses of a switch.
@@ -155,17 +129,11 @@ fn chosen<'p>(b: &mut Body<'p>, clauses: &'p CoreClauses, label: Label, c: Claus
         end_clause(b, c, clause.falls_through);
         n = n.saturating_add(1);
     }
-    b.mark(c.end);
 }
 
-// The default and the clauses of a select.
+// The clauses of a select.
 #[cycle(stmt)]
-fn selected<'p>(b: &mut Body<'p>, cases: &'p CoreCases, label: Label, default: &'p CoreStmts) {
-    let c = begin_clauses(b, cases.items.len());
-    jumps(b, cases.items.len(), c);
-    b.enter_label(label, c.end, c.end);
-    stmts(b, default);
-    end_clause(b, c, false);
+fn selected<'p>(b: &mut Body<'p>, cases: &'p CoreCases, label: Label, c: Clauses) {
     let mut n: u32 = 0;
     for case in &cases.items {
         begin_clause(b, c, n, label);
@@ -174,7 +142,6 @@ fn selected<'p>(b: &mut Body<'p>, cases: &'p CoreCases, label: Label, default: &
         end_clause(b, c, false);
         n = n.saturating_add(1);
     }
-    b.mark(c.end);
 }
 
 // ---- what holds no statements

@@ -47,13 +47,39 @@ pub fn stmt<'p>(b: &mut Body<'p>, s: &'p CoreStmt, around: Option<u32>) {
             condition,
             when_true,
             when_false,
-        } => if_else(b, around, condition, when_true, when_false),
+        } => {
+            let c = begin_if(b, around, is_one_if(when_false));
+            expr(b, condition);
+            let test = b.take();
+            let mark = b.pool.open();
+            stmts(b, when_true);
+            let arm = end_arm(b, c, test, mark);
+            let mark = b.pool.open();
+            if is_one_if(when_false) {
+                for other in &when_false.items {
+                    stmt(b, other, c.end);
+                }
+            } else {
+                stmts(b, when_false);
+            }
+            end_if(b, c, test, arm, mark);
+        }
         CoreStmtForm::Loop {
             label,
             condition,
             body,
             post,
-        } => turns(b, *label, condition, body, post),
+        } => {
+            let l = begin_loop(b, !post.items.is_empty());
+            note_sets(b, body);
+            note_sets(b, post);
+            test_turn(b, condition, l);
+            let mark = begin_turn(b, *label, l);
+            stmts(b, body);
+            end_turn(b, l, mark);
+            stmts(b, post);
+            end_loop(b, l);
+        }
         CoreStmtForm::SwitchOn {
             label,
             tests,
@@ -80,52 +106,6 @@ pub fn stmt<'p>(b: &mut Body<'p>, s: &'p CoreStmt, around: Option<u32>) {
         CoreStmtForm::Labeled { label, body } => labeled(b, *label, body),
         _ => other(b, s),
     }
-}
-
-// `if`
-#[cycle(stmt)]
-fn if_else<'p>(
-    b: &mut Body<'p>,
-    around: Option<u32>,
-    condition: &'p CoreExpr,
-    when_true: &'p CoreStmts,
-    when_false: &'p CoreStmts,
-) {
-    let c = begin_if(b, around, is_one_if(when_false));
-    expr(b, condition);
-    let test = b.take();
-    let mark = b.pool.open();
-    stmts(b, when_true);
-    let arm = end_arm(b, c, test, mark);
-    let mark = b.pool.open();
-    if is_one_if(when_false) {
-        for other in &when_false.items {
-            stmt(b, other, c.end);
-        }
-    } else {
-        stmts(b, when_false);
-    }
-    end_if(b, c, test, arm, mark);
-}
-
-// The turns of a loop.
-#[cycle(stmt)]
-fn turns<'p>(
-    b: &mut Body<'p>,
-    label: Label,
-    condition: &'p Option<CoreExpr>,
-    body: &'p CoreStmts,
-    post: &'p CoreStmts,
-) {
-    let l = begin_loop(b, !post.items.is_empty());
-    note_sets(b, body);
-    note_sets(b, post);
-    test_turn(b, condition, l);
-    let mark = begin_turn(b, label, l);
-    stmts(b, body);
-    end_turn(b, l, mark);
-    stmts(b, post);
-    end_loop(b, l);
 }
 
 // The turns of a range.
@@ -214,13 +194,21 @@ fn first_store<'p>(b: &mut Body<'p>, s: &'p CoreStmt, targets: &'p [Target], fre
 fn declare_where_set(b: &mut Body<'_>, v: VarId, begun: usize) {
     let slot = b.home(v).slot;
     for i in begun..b.pool.lines.len() {
-        if let Stmt::Assign(Name::Numbered(word, n), e) = b.pool.lines[i]
-            && n == slot
-            && *word == *b"$v".as_slice()
-        {
-            b.pool.lines[i] = Stmt::Declare(Name::Numbered(word, n), e);
+        if let Some(line) = b.pool.lines.as_mut_slice().get_mut(i) {
+            *line = declaring(*line, slot);
         }
     }
+}
+
+// A statement that sets the variable of a slot as its declaration.
+fn declaring(line: Stmt, slot: u32) -> Stmt {
+    if let Stmt::Assign(Name::Numbered(word, n), e) = line
+        && n == slot
+        && *word == *b"$v".as_slice()
+    {
+        return Stmt::Declare(Name::Numbered(word, n), e);
+    }
+    line
 }
 
 fn sets(targets: &[Target], v: VarId) -> bool {
