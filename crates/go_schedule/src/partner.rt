@@ -15,10 +15,15 @@ pub struct Partner {
 
 // Whether a way is an operation of the side on the channel.
 fn is_meant(offer: Offer, side: Side, name: u64) -> bool {
-    match (offer, side) {
-        (Offer::Sending { channel, .. }, Side::Sends) => same_name(channel, name),
-        (Offer::Receiving { channel, .. }, Side::Receives) => same_name(channel, name),
-        _ => false,
+    match offer {
+        Offer::Sending { channel, .. } => match side {
+            Side::Sends => same_name(channel, name),
+            _ => false,
+        },
+        Offer::Receiving { channel, .. } => match side {
+            Side::Receives => same_name(channel, name),
+            _ => false,
+        },
     }
 }
 

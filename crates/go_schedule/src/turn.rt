@@ -69,16 +69,47 @@ pub fn next_step<'p, 'a>(
     Ok(next)
 }
 
+fn doubled(slice: Scalar) -> u64 {
+    match slice {
+        Scalar::Slice { capacity, .. } => capacity.saturating_mul(2),
+        _ => LEAST_CAPACITY,
+    }
+}
+
+// The capacity of the new array of an append to a slice: twice that of the old one.
+fn capacity_after(slice: &[Scalar]) -> u64 {
+    match slice {
+        [slice] => doubled(*slice),
+        _ => LEAST_CAPACITY,
+    }
+}
+
+// Whether a birth comes after all that were produced, the last one first.
+fn is_after(birth: u64, produced: &[u64]) -> bool {
+    match produced.first() {
+        Some(last) => *last < birth,
+        None => true,
+    }
+}
+
 impl<'s, 'p, 'a> Turn<'s, 'p, 'a> {
     /// The move of a goroutine with this next step; where it has none, it waits, or its frame ends.
     pub fn chosen(self, next: Option<Todo<'p, 'a>>) -> Result<Chosen, NoMemory>
         requires { IfSome next (λ t. opens t ≡ false) }
     {
         match next {
-            Some(Todo::Text(task)) => self.of_task(task),
-            Some(Todo::NextRange(_, cursor)) => Ok(self.of_range(cursor)),
-            Some(_) => Ok(self.plain()),
+            Some(todo) => self.of_todo(todo),
             None => Ok(self.waiting()),
+        }
+    }
+
+    fn of_todo(self, todo: Todo<'p, 'a>) -> Result<Chosen, NoMemory>
+        requires { opens todo ≡ false }
+    {
+        match todo {
+            Todo::Text(task) => self.of_task(task),
+            Todo::NextRange(_, cursor) => Ok(self.of_range(cursor)),
+            _ => Ok(self.plain()),
         }
     }
 
@@ -143,7 +174,10 @@ impl<'s, 'p, 'a> Turn<'s, 'p, 'a> {
 
     // A select that is reached.
     fn at_select(self, select: Select<'p>) -> Result<Chosen, NoMemory> {
-        match offers_from(self.c, select.cases, self.last_values(select.count)) {
+        let Some(values) = self.last_values(select.count) else {
+            return Ok(self.plain());
+        };
+        match offers_from(self.c, select.cases, values) {
             Ok(offers) => self.of_offers(offers.as_slice()),
             Err(Stop::NoMemory) => Err(NoMemory),
             Err(_) => Ok(self.plain()),
@@ -180,22 +214,24 @@ impl<'s, 'p, 'a> Turn<'s, 'p, 'a> {
             .last()
     }
 
-    // The last so many values; none where there are fewer.
-    fn last_values(self, count: usize) -> &'s [&'a [Scalar<'a>]] {
-        match self.frame() {
-            Some(frame) if count <= frame.values.len() => {
-                &frame.values.as_slice()[frame.values.len() - count..]
-            }
-            _ => &[],
+    // The last so many values, where there are so many.
+    fn last_values(self, count: usize) -> Option<&'s [&'a [Scalar<'a>]]> {
+        let values = self.frame()?.values.as_slice();
+        if count > values.len() {
+            return None;
         }
+        Some(&values[values.len() - count..])
     }
 
     // The first of the last so many values.
     fn value(self, count: usize) -> &'a [Scalar<'a>] {
-        match self.last_values(count).first() {
-            Some(value) => *value,
-            None => &[],
+        let Some(values) = self.last_values(count) else {
+            return &[];
+        };
+        if values.is_empty() {
+            return &[];
         }
+        values[0]
     }
 
     // ---- steps
@@ -223,13 +259,9 @@ impl<'s, 'p, 'a> Turn<'s, 'p, 'a> {
         }
     }
 
-    // A new array has twice the capacity of the old one.
     fn appending(self) -> Chosen {
         let mut chosen = self.plain();
-        chosen.free.capacity = match self.value(2) {
-            [Scalar::Slice { capacity, .. }] => capacity.saturating_mul(2),
-            _ => LEAST_CAPACITY,
-        };
+        chosen.free.capacity = capacity_after(self.value(2));
         chosen
     }
 
@@ -237,25 +269,21 @@ impl<'s, 'p, 'a> Turn<'s, 'p, 'a> {
     // births.
     fn of_range(self, cursor: Cursor) -> Chosen {
         let mut chosen = self.plain();
-        if let Cursor::Entries {
-            map: Some(name),
-            produced,
-            since,
-        } = cursor
-        {
-            chosen.free.birth = self.next_birth(name, produced, since);
-        }
+        chosen.free.birth = match cursor {
+            Cursor::Entries {
+                map,
+                produced,
+                since,
+            } => self.next_birth(map, produced, since),
+            _ => None,
+        };
         chosen
     }
 
-    fn next_birth(self, map: u64, produced: &[u64], since: u64) -> Option<u64> {
-        let map = self.state.memory.maps.as_slice().get(map as usize)?;
+    fn next_birth(self, map: Option<u64>, produced: &[u64], since: u64) -> Option<u64> {
+        let map = self.state.memory.maps.as_slice().get(map? as usize)?;
         for entry in &map.entries {
-            let is_next = match produced.first() {
-                Some(last) => *last < entry.birth,
-                None => true,
-            };
-            if is_next && entry.birth < since {
+            if is_after(entry.birth, produced) && entry.birth < since {
                 return Some(entry.birth);
             }
         }
