@@ -31,6 +31,8 @@ pub mod EnteredTyped
 pub mod ResolvedTyped
 pub mod CallSteps
 pub mod SampleSound
+pub mod SampleMethods
+pub mod SampleRefused
 pub mod CommunicationOpened
 pub mod CommunicationFrames
 pub mod CommunicationOffers
