@@ -33,6 +33,7 @@ pub mod CallSteps
 pub mod SampleSound
 pub mod SampleMethods
 pub mod SampleRefused
+pub mod SampleListed
 pub mod CommunicationOpened
 pub mod CommunicationFrames
 pub mod CommunicationOffers

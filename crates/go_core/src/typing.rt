@@ -8,6 +8,12 @@ ghost use Rattle.go_core.specs.CommunicationSteps.{
   UnreadyStays,
   WaitingKeeps,
 };
+ghost use Rattle.go_core.specs.ListedSample.{
+  MentionedAreListed,
+  NodesAreListed,
+  PartsAreListed,
+  SampleIsListed,
+};
 ghost use Rattle.go_core.specs.LocalSteps.{LocalStepsKeep};
 ghost use Rattle.go_core.specs.SoundSample.{
   AssertionsWithoutMethodAreNot,
@@ -104,4 +110,13 @@ pub fn refused()
     ensures pointers { NamedPointersAreNot }
     ensures numbers { NumbersAreNoRunes }
     ensures nil { ValuesOfNilAreNot }
+{}
+
+/// Which tables of types have all that a program mentions: one that lists them, and none without the type of run-time
+/// panics, without a type that a node has, or without a part of one of its own.
+pub fn listed()
+    ensures sample { SampleIsListed }
+    ensures mentioned { MentionedAreListed }
+    ensures nodes { NodesAreListed }
+    ensures parts { PartsAreListed }
 {}
