@@ -31,6 +31,9 @@ pub mod EnteredTyped
 pub mod ResolvedTyped
 pub mod CallSteps
 pub mod SampleSound
+pub mod SampleMethods
+pub mod SampleRefused
+pub mod SampleListed
 pub mod CommunicationOpened
 pub mod CommunicationFrames
 pub mod CommunicationOffers

@@ -10,7 +10,7 @@ use Rattle.go_type.specs.Underlying.{underlying}
 use Rattle.go_core.specs.CoreTree as core
 use Rattle.go_core.specs.CoreTree.{Expr, Exprs, no_exprs, expr, CorePlace, Bound, no_bound, bound, Elements, no_elements, element, Pairs, no_pairs, pair, Callee, Var, CoreFunc, CoreProgram}
 use Rattle.go_core.specs.TypeOf.{listed_types, types_of, all_types, one_type, value_type, channel_type, with_truth, field_in, FieldTy, int_type}
-use Rattle.go_core.specs.SoundNode.{Around, with_all, IsInt, IsMap, IsGate, IsChannel, Calls, BuildsPart, IsSignature, method_at, under_one, CallsValue, CallsDynamic, types_of_vars}
+use Rattle.go_core.specs.SoundNode.{Around, with_all, IsInt, IsMap, IsGate, IsChannel, IsInterface, MayBe, Calls, BuildsPart, IsSignature, method_at, under_one, CallsValue, CallsDynamic, types_of_vars}
 use Rattle.go_core.specs.Sound.{SoundExpr, SoundExprs, SoundPlace, SoundBound, SoundElements, SoundPairs, SoundCallee, SoundGate, Gives, LiesAt, IsMapOf, IsChannelOf, BinaryFits}
 use Rattle.go_core.specs.Operator as op
 use Rattle.go_core.specs.Opened.{evaluated, placed, all_evaluated, bound_first, elements_first, pairs_first, callee_first, has, one_if, indexes_of, pair_count, value_count, values_of, callee_count, call_count, called_of}
@@ -57,6 +57,11 @@ builds_none p t (ty.slice u) count i h = h
 builds_none p t (ty.array n u) count i h = h
 builds_none p t (ty.struct fs) count i h = h
 builds_none p t _ count i h = h
+
+-- what is asked of is an interface value
+asked : (p : CoreProgram) (t u : Ty) → MayBe p t u → IsInterface u
+asked p t (ty.interface ms) h = tt
+asked p t _ h = absurd h
 
 binary_is : (p : CoreProgram) (o : Op) (t : Ty) (a b : Expr) → IsInt (underlying p.names t) → BinaryFits p o t a b → Gives p a t × (u : Ty) × Gives p b u × IsInt (underlying p.names u)
 binary_is p o t a b i (inl h) = (h.1, t, h.2, i)
@@ -264,7 +269,7 @@ module _ (p : CoreProgram) (w : World) (results : List Ty) where
         (operate_typed had (a_value from ∷ []) (a_value t ∷ []) st (op.to_interface from) 1 rest (wrap_applies from t h.2) refl k))
     ev (core.assert_ t ok e) had a st rest s h k =
         ev e had a st (task.operate (op.to_asserted t ok) 1 ∷ rest) s h.0 (one had e h.1.0 h.1.1 st _
-        (operate_typed had (a_value h.1.0 ∷ []) (values_of_types (with_truth ok (Some t))) st (op.to_asserted t ok) 1 rest (assert_applies h.1.0 t ok h.1.2) refl k))
+        (operate_typed had (a_value h.1.0 ∷ []) (values_of_types (with_truth ok (Some t))) st (op.to_asserted t ok) 1 rest (assert_applies h.1.0 t ok (asked p t (underlying p.names h.1.0) h.1.2)) refl k))
     ev (core.basic t e) had a st rest s h k =
         ev e had a st (task.operate op.to_basic 1 ∷ rest) s h.0 (one had e t h.1 st _ (operate_typed had (a_value t ∷ []) (a_value t ∷ []) st op.to_basic 1 rest (basic_applies t h.2) refl k))
     ev (core.receive t ok e) had a st rest s h k =

@@ -17,7 +17,7 @@ use Rattle.go_core.specs.Memory as cell
 use Rattle.go_core.specs.Memory.{Scalar, Value, Memory, zeros, with_fresh, next_base, written}
 use Rattle.go_core.specs.CoreTree.{CoreProgram}
 use Rattle.go_core.specs.TypeOf.{int_type}
-use Rattle.go_core.specs.SoundNode.{IsText, IsInterface, IsByteOrRune, Converts, IsConversion, IsTyped, AsksNoMore, HasLength, HasCapacity, BuildsPart, IsBuilt}
+use Rattle.go_core.specs.SoundNode.{IsText, IsInterface, IsByteOrRune, Converts, ConvertsPointer, IsConversion, IsTyped, AsksNoMore, HasLength, HasCapacity, BuildsPart, IsBuilt}
 use Rattle.go_core.specs.SoundProgram.{AreSet}
 use Rattle.go_core.specs.RunPanic.{bad_size}
 use Rattle.go_core.specs.Did.{Did, gives, panics}
@@ -101,8 +101,11 @@ module _ (p : CoreProgram) (w : World) (set : AreSet p) (m : Memory) (mt : Memor
   by_kinds t (ty.int a) ty.str x e c h = number_text t a x e h
   by_kinds t ty.str (ty.slice a) x e c h = text_slice t a (underlying p.names a) x e refl c h
   by_kinds t (ty.slice a) ty.str x e c h = slice_text t a (underlying p.names a) x e c h
-  by_kinds t (ty.pointer a) (ty.pointer b) x e c h = pointers t a b x e c h
   by_kinds t _ _ x e c h = absurd c
+
+  by_pointers : (from t : Ty) (x : Value) → ConvertsPointer p from t → IsOf p w from x → D t (n.convert_step p.names from t x m)
+  by_pointers (ty.pointer a) (ty.pointer b) x c h = pointers (ty.pointer b) a b x refl c h
+  by_pointers _ _ x c h = absurd c
 
   -- ---- by assignability
 
@@ -167,7 +170,8 @@ module _ (p : CoreProgram) (w : World) (set : AreSet p) (m : Memory) (mt : Memor
   pub converts : (from t : Ty) (x : Value) → IsConversion p from t → IsOf p w from x → D t (n.convert_step p.names from t x m)
   converts from t x (inl e) h = by_alike from t x e h
   converts from t x (inr (inl c)) h = by_kinds t (underlying p.names from) (underlying p.names t) x refl c (down p w set from (underlying p.names from) x refl h)
-  converts from t x (inr (inr c)) h = by_assign from t x c.0 c.1 c.2 c.3 h
+  converts from t x (inr (inr (inl c))) h = by_pointers from t x c h
+  converts from t x (inr (inr (inr c))) h = by_assign from t x c.0 c.1 c.2 c.3 h
 
   -- ---- lengths
 

@@ -1,6 +1,6 @@
--- The samples are Sound.
+-- The samples are Sound, and those that are to be refused aren't.
 use Rattle.std.proofs.Common.{inl, inr, refl, ap, ◌∙◌, subst, arith}
-use Rattle.std.specs.Prelude.{◌≡◌, ℕ, zero, suc, List, [], ◌∷◌, ◌++◌, Bool, true, false, ◌||◌, ◌&&◌, ◌==◌, not, if◌then◌else◌, codes, Some, All, AllPairs, slice_get}
+use Rattle.std.specs.Prelude.{◌≡◌, ℕ, zero, suc, List, [], ◌∷◌, ◌++◌, Bool, true, false, ◌||◌, ◌&&◌, ◌==◌, not, if◌then◌else◌, codes, Some, All, AllPairs, Contains, slice_get}
 use Rattle.std.proofs.lemmas.Bool.{eqb-false}
 use Rattle.std.proofs.lemmas.List.Elements.{All-nil, All-cons}
 use Rattle.std.proofs.lemmas.List.Kept.{AllPairs-cons}
@@ -14,15 +14,15 @@ use Rattle.go_core.specs.TypeOf.{FieldTy}
 use Rattle.go_core.specs.MeaningWords.{int, hidden, error_func, error_method, var_of}
 use Rattle.go_core.specs.RowsMemory.{tag_a, tag_b, tagged, type_a, type_b, type_c, type_d, pointer_a, pointer_b, reader, tagged_names, read_func}
 use Rattle.go_core.specs.SoundNode.{IsGoodType, IsGate, IsRowOf}
-use Rattle.go_core.specs.SoundProgram.{SoundFunc, SoundRow, SoundHidden, AreSet, DifferInId, all_vars}
+use Rattle.go_core.specs.SoundProgram.{SoundFunc, SoundRow, SoundHidden, AreSet, DifferInId, DifferInRow, all_vars}
 use Rattle.go_core.specs.SoundSample.{runtime_func, runtime_method, main_func, sample_of, sample, SampleIsSound, tags_func, tags_sample, TagsAreIgnored}
 use Rattle.go_core.proofs.SameTypeLemmas.{first_true, second_true}
 
-some_inj : {A : Type 0} (x y : A) → Some x ≡ Some y → x ≡ y
+pub some_inj : {A : Type 0} (x y : A) → Some x ≡ Some y → x ≡ y
 some_inj x y e = cc
 
 -- a method is found by its name, exported or not
-shown : (x : Bool) (m : Member) → (if x || true then m ∷ [] else []) ++ [] ≡ m ∷ []
+pub shown : (x : Bool) (m : Member) → (if x || true then m ∷ [] else []) ++ [] ≡ m ∷ []
 shown true m = refl
 shown false m = refl
 
@@ -46,54 +46,54 @@ apart_from v (w ∷ ws) e =
     All-cons (DifferInId v) w ws (eqb-false v.id w.id (not_true (v.id == w.id) (first_true (not (v.id == w.id)) (is_apart v ws) e)))
     (apart_from v ws (second_true (not (v.id == w.id)) (is_apart v ws) e))
 
-all_apart : (vs : List Var) → are_apart vs ≡ true → AllPairs DifferInId vs
+pub all_apart : (vs : List Var) → are_apart vs ≡ true → AllPairs DifferInId vs
 all_apart [] e = λ i j d l m. absurd (omega (arith, m))
 all_apart (v ∷ vs) e =
     AllPairs-cons DifferInId v vs (apart_from v vs (first_true (is_apart v vs) (are_apart vs) e)) (all_apart vs (second_true (is_apart v vs) (are_apart vs) e))
 
 -- ---- what the samples share
 
-module _ (names : List NamedTy) (main : CoreFunc) (others : List CoreFunc) where
-  no_row : (k : ℕ) → (1 ≡ k → ⊥) → (2 ≡ k → ⊥) → IsRowOf (sample_of names main others) k → ⊥
-  no_row k a b (row, (zero, lt, e), f) = a (ap (λ (r : MethodRow). r.func) e ∙ f)
-  no_row k a b (row, (suc zero, lt, e), f) = b (ap (λ (r : MethodRow). r.func) e ∙ f)
-  no_row k a b (row, (suc (suc i), lt, e), f) = absurd (omega (arith, lt))
+module _ (names : List NamedTy) (rows : List MethodRow) (main : CoreFunc) (others : List CoreFunc) where
+  pub no_row : (k : ℕ) → (1 ≡ k → ⊥) → (2 ≡ k → ⊥) → ((row : MethodRow) → Contains rows row → row.func ≡ k → ⊥) → IsRowOf (sample_of names rows main others) k → ⊥
+  no_row k a b c (row, (zero, lt, e), f) = a (ap (λ (r : MethodRow). r.func) e ∙ f)
+  no_row k a b c (row, (suc zero, lt, e), f) = b (ap (λ (r : MethodRow). r.func) e ∙ f)
+  no_row k a b c (row, (suc (suc i), lt, e), f) = c row (i, omega (arith, lt), e) f
 
-  good_int : IsGoodType (sample_of names main others) int
+  pub good_int : IsGoodType (sample_of names rows main others) int
   good_int = record { is_whole = record { is_finite = refl; is_small = omega arith }; has_key = tt }
 
-  good_text : IsGoodType (sample_of names main others) ty.str
+  good_text : IsGoodType (sample_of names rows main others) ty.str
   good_text = record { is_whole = record { is_finite = refl; is_small = omega arith }; has_key = tt }
 
-  good_hidden : IsGoodType (sample_of names main others) hidden
+  good_hidden : IsGoodType (sample_of names rows main others) hidden
   good_hidden = record { is_whole = record { is_finite = refl; is_small = omega arith }; has_key = tt }
 
-  error_sound : SoundFunc (sample_of names main others) 1 error_func
+  pub error_sound : SoundFunc (sample_of names rows main others) 1 error_func
   error_sound = record {
     receiver = hidden ∷ [];
     is_method = inr (hidden, refl, (error_method, (0, omega arith, refl), refl));
     header = 2;
     begins = refl;
     captured_known = refl;
-    sound_types = All-cons (λ (v : Var). IsGoodType (sample_of names main others) v.type_) (var_of 900 hidden) (var_of 901 ty.str ∷ []) good_hidden
-        (All-cons (λ (v : Var). IsGoodType (sample_of names main others) v.type_) (var_of 901 ty.str) [] good_text (All-nil (λ (v : Var). IsGoodType (sample_of names main others) v.type_)));
+    sound_types = All-cons (λ (v : Var). IsGoodType (sample_of names rows main others) v.type_) (var_of 900 hidden) (var_of 901 ty.str ∷ []) good_hidden
+        (All-cons (λ (v : Var). IsGoodType (sample_of names rows main others) v.type_) (var_of 901 ty.str) [] good_text (All-nil (λ (v : Var). IsGoodType (sample_of names rows main others) v.type_)));
     sound_body = ((((((hidden, refl), refl), refl, good_text, inl refl), tt), refl), tt);
     terminates = inr refl;
   }
 
-  runtime_sound : SoundFunc (sample_of names main others) 2 runtime_func
+  pub runtime_sound : SoundFunc (sample_of names rows main others) 2 runtime_func
   runtime_sound = record {
     receiver = hidden ∷ [];
     is_method = inr (hidden, refl, (runtime_method, (1, omega arith, refl), refl));
     header = 1;
     begins = refl;
     captured_known = refl;
-    sound_types = All-cons (λ (v : Var). IsGoodType (sample_of names main others) v.type_) (var_of 902 hidden) [] good_hidden (All-nil (λ (v : Var). IsGoodType (sample_of names main others) v.type_));
+    sound_types = All-cons (λ (v : Var). IsGoodType (sample_of names rows main others) v.type_) (var_of 902 hidden) [] good_hidden (All-nil (λ (v : Var). IsGoodType (sample_of names rows main others) v.type_));
     sound_body = tt;
     terminates = inl refl;
   }
 
-  error_row : SoundRow (sample_of names main others) error_method
+  pub error_row : SoundRow (sample_of names rows main others) error_method
   unfolding members_at
   error_row = record {
     function = error_func;
@@ -106,7 +106,7 @@ module _ (names : List NamedTy) (main : CoreFunc) (others : List CoreFunc) where
     has_signature = record { depth = 0; path = []; of_ = hidden; on_pointer = false; shallowest = record { before = record { at = λ e lt. absurd (omega (arith, lt)) }; here = shown (is_exported error_method.name) (method [] hidden false no_tys (more_tys ty.str no_tys) false) }; reached = λ e. absurd (cc) };
   }
 
-  runtime_row : SoundRow (sample_of names main others) runtime_method
+  pub runtime_row : SoundRow (sample_of names rows main others) runtime_method
   unfolding members_at
   runtime_row = record {
     function = runtime_func;
@@ -119,7 +119,7 @@ module _ (names : List NamedTy) (main : CoreFunc) (others : List CoreFunc) where
     has_signature = record { depth = 0; path = []; of_ = hidden; on_pointer = false; shallowest = record { before = record { at = λ e lt. absurd (omega (arith, lt)) }; here = shown (is_exported runtime_method.name) (method [] hidden false no_tys no_tys false) }; reached = λ e. absurd (cc) };
   }
 
-  hidden_sound : SoundHidden (sample_of names main others)
+  pub hidden_sound : SoundHidden (sample_of names rows main others)
   hidden_sound = record {
     name = 0;
     is_named = refl;
@@ -128,18 +128,28 @@ module _ (names : List NamedTy) (main : CoreFunc) (others : List CoreFunc) where
     has_runtime_error = record { at = 1; row = runtime_method; function = runtime_func; found = refl; is_row = refl; is_function = refl; params_fit = refl; results_fit = refl; variadic_fits = refl };
   }
 
+none_else : (k : ℕ) (row : MethodRow) → Contains [] row → row.func ≡ k → ⊥
+none_else k row (i, lt, e) f = absurd (omega (arith, lt))
+
+-- the rows of the hidden type are apart
+two_rows : AllPairs DifferInRow (error_method ∷ runtime_method ∷ [])
+two_rows i zero d l m = absurd (omega (arith, l))
+two_rows zero (suc zero) d l m = λ t n. absurd (cc)
+two_rows (suc i) (suc zero) d l m = absurd (omega (arith, l))
+two_rows i (suc (suc j)) d l m = absurd (omega (arith, m))
+
 -- ---- the first one
 
 main_sound : SoundFunc sample 0 main_func
 main_sound = record {
   receiver = [];
-  is_method = inl (refl, no_row [] main_func [] 0 (λ e. absurd (cc)) (λ e. absurd (cc)));
+  is_method = inl (refl, no_row [] [] main_func [] 0 (λ e. absurd (cc)) (λ e. absurd (cc)) (none_else 0));
   header = 0;
   begins = refl;
   captured_known = refl;
-  sound_types = All-cons (λ (v : Var). IsGoodType sample v.type_) (var_of 1 int) [] (good_int [] main_func []) (All-nil (λ (v : Var). IsGoodType sample v.type_));
+  sound_types = All-cons (λ (v : Var). IsGoodType sample v.type_) (var_of 1 int) [] (good_int [] [] main_func []) (All-nil (λ (v : Var). IsGoodType sample v.type_));
   sound_body = (
-    ((0, omega arith, refl), good_int [] main_func []),
+    ((0, omega arith, refl), good_int [] [] main_func []),
     (
       ((refl, tt), (((int, refl), refl, refl), tt)),
       (
@@ -158,8 +168,8 @@ main_sound = record {
 
 functions : (k : ℕ) (f : CoreFunc) → slice_get sample.funcs k ≡ Some f → SoundFunc sample k f
 functions zero f e = subst (λ x. SoundFunc sample 0 x) (some_inj main_func f e) main_sound
-functions (suc zero) f e = subst (λ x. SoundFunc sample 1 x) (some_inj error_func f e) (error_sound [] main_func [])
-functions (suc (suc zero)) f e = subst (λ x. SoundFunc sample 2 x) (some_inj runtime_func f e) (runtime_sound [] main_func [])
+functions (suc zero) f e = subst (λ x. SoundFunc sample 1 x) (some_inj error_func f e) (error_sound [] [] main_func [])
+functions (suc (suc zero)) f e = subst (λ x. SoundFunc sample 2 x) (some_inj runtime_func f e) (runtime_sound [] [] main_func [])
 functions (suc (suc (suc k))) f e = absurd (cc)
 
 set : AreSet sample
@@ -173,13 +183,14 @@ sound = record {
   few_functions = omega arith;
   functions = functions;
   variables_differ = all_apart (all_vars sample) refl;
-  main_fits = record { function = main_func; is_function = refl; no_params = refl; no_results = refl; captures_nothing = refl; no_method = no_row [] main_func [] 0 (λ e. absurd (cc)) (λ e. absurd (cc)) };
-  rows = All-cons (SoundRow sample) error_method (runtime_method ∷ []) (error_row [] main_func []) (All-cons (SoundRow sample) runtime_method [] (runtime_row [] main_func []) (All-nil (SoundRow sample)));
+  main_fits = record { function = main_func; is_function = refl; no_params = refl; no_results = refl; captures_nothing = refl; no_method = no_row [] [] main_func [] 0 (λ e. absurd (cc)) (λ e. absurd (cc)) (none_else 0) };
+  rows = All-cons (SoundRow sample) error_method (runtime_method ∷ []) (error_row [] [] main_func []) (All-cons (SoundRow sample) runtime_method [] (runtime_row [] [] main_func []) (All-nil (SoundRow sample)));
+  rows_differ = two_rows;
   package_variables = λ k d lt. absurd (omega (arith, lt));
   numbers_differ = λ i j d l m. absurd (omega (arith, m));
   packages = λ k d lt. absurd (omega (arith, lt));
   paths_differ = λ i j d l m. absurd (omega (arith, m));
-  hidden = hidden_sound [] main_func [];
+  hidden = hidden_sound [] [] main_func [];
 }
 
 -- ---- the one with tags
@@ -212,7 +223,7 @@ good_reader : (t : Ty) → Good (reader t)
 good_reader t = record { is_whole = record { is_finite = refl; is_small = omega arith }; has_key = tt }
 
 good_number : Good int
-good_number = good_int tagged_names tags_func (read_func ∷ [])
+good_number = good_int tagged_names [] tags_func (read_func ∷ [])
 
 -- a field of no package is no gate
 no_gate : (name : List ℕ) (t : Ty) → IsGate (Some (record { name = name; package_ = []; type_ = t })) → ⊥
@@ -222,7 +233,7 @@ x_field : FieldTy
 x_field = record { name = codes "X"; package_ = []; type_ = int }
 
 no_method : (k : ℕ) → (1 ≡ k → ⊥) → (2 ≡ k → ⊥) → IsRowOf tags_sample k → ⊥
-no_method = no_row tagged_names tags_func (read_func ∷ [])
+no_method k a b = no_row tagged_names [] tags_func (read_func ∷ []) k a b (none_else k)
 
 tags_sound : SoundFunc tags_sample 0 tags_func
 tags_sound = record {
@@ -254,12 +265,12 @@ tags_sound = record {
               (
                 ((2, omega arith, refl), good_pointer type_b),
                 (
-                  (((((type_a, refl), type_a, refl, refl), refl, good_pointer type_b, inr (inl refl)), tt), (((ty.pointer type_b, refl), refl, refl), tt)),
+                  (((((type_a, refl), type_a, refl, refl), refl, good_pointer type_b, inr (inr (inl refl))), tt), (((ty.pointer type_b, refl), refl, refl), tt)),
                   -- c := C{(*struct { X int "a" })(&a)}
                   (
                     ((3, omega arith, refl), good_c),
                     (
-                      (((((((type_a, refl), type_a, refl, refl), refl, good_pointer (tagged tag_a), inr (inl refl)), (record { name = codes "P"; package_ = []; type_ = pointer_a }, refl, refl, no_gate (codes "P") pointer_a), tt), good_c, tt), tt), (((type_c, refl), refl, refl), tt)),
+                      (((((((type_a, refl), type_a, refl, refl), refl, good_pointer (tagged tag_a), inr (inr (inl refl))), (record { name = codes "P"; package_ = []; type_ = pointer_a }, refl, refl, no_gate (codes "P") pointer_a), tt), good_c, tt), tt), (((type_c, refl), refl, refl), tt)),
                       -- d := D(c)
                       (
                         ((4, omega arith, refl), good_d),
@@ -333,8 +344,8 @@ reads_sound = record {
 
 tags_functions : (k : ℕ) (f : CoreFunc) → slice_get tags_sample.funcs k ≡ Some f → SoundFunc tags_sample k f
 tags_functions zero f e = subst (λ x. SoundFunc tags_sample 0 x) (some_inj tags_func f e) tags_sound
-tags_functions (suc zero) f e = subst (λ x. SoundFunc tags_sample 1 x) (some_inj error_func f e) (error_sound tagged_names tags_func (read_func ∷ []))
-tags_functions (suc (suc zero)) f e = subst (λ x. SoundFunc tags_sample 2 x) (some_inj runtime_func f e) (runtime_sound tagged_names tags_func (read_func ∷ []))
+tags_functions (suc zero) f e = subst (λ x. SoundFunc tags_sample 1 x) (some_inj error_func f e) (error_sound tagged_names [] tags_func (read_func ∷ []))
+tags_functions (suc (suc zero)) f e = subst (λ x. SoundFunc tags_sample 2 x) (some_inj runtime_func f e) (runtime_sound tagged_names [] tags_func (read_func ∷ []))
 tags_functions (suc (suc (suc zero))) f e = subst (λ x. SoundFunc tags_sample 3 x) (some_inj read_func f e) reads_sound
 tags_functions (suc (suc (suc (suc k)))) f e = absurd (cc)
 
@@ -354,11 +365,12 @@ tags_are_ignored = record {
   functions = tags_functions;
   variables_differ = all_apart (all_vars tags_sample) refl;
   main_fits = record { function = tags_func; is_function = refl; no_params = refl; no_results = refl; captures_nothing = refl; no_method = no_method 0 (λ e. absurd (cc)) (λ e. absurd (cc)) };
-  rows = All-cons (SoundRow tags_sample) error_method (runtime_method ∷ []) (error_row tagged_names tags_func (read_func ∷ []))
-      (All-cons (SoundRow tags_sample) runtime_method [] (runtime_row tagged_names tags_func (read_func ∷ [])) (All-nil (SoundRow tags_sample)));
+  rows = All-cons (SoundRow tags_sample) error_method (runtime_method ∷ []) (error_row tagged_names [] tags_func (read_func ∷ []))
+      (All-cons (SoundRow tags_sample) runtime_method [] (runtime_row tagged_names [] tags_func (read_func ∷ [])) (All-nil (SoundRow tags_sample)));
+  rows_differ = two_rows;
   package_variables = λ k d lt. absurd (omega (arith, lt));
   numbers_differ = λ i j d l m. absurd (omega (arith, m));
   packages = λ k d lt. absurd (omega (arith, lt));
   paths_differ = λ i j d l m. absurd (omega (arith, m));
-  hidden = hidden_sound tagged_names tags_func (read_func ∷ []);
+  hidden = hidden_sound tagged_names [] tags_func (read_func ∷ []);
 }

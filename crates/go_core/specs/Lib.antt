@@ -50,4 +50,6 @@ pub mod AssignSteps
 pub mod CallSteps
 pub mod WholeSteps
 pub mod SoundSample
+pub mod Listed
+pub mod ListedSample
 pub mod CoreView

@@ -10,7 +10,7 @@ use Rattle.go_core.specs.Layout.{is_comparable}
 use Rattle.go_core.specs.CoreTree as core
 use Rattle.go_core.specs.CoreTree.{Constant, Expr, Exprs, no_exprs, expr, CorePlace, Bound, no_bound, bound, Elements, no_elements, element, Pairs, no_pairs, pair, Callee, Target, BranchKind, break_, continue_, Communication, Stmt, Stmts, no_stmts, stmt, Tests, no_tests, test, Clauses, no_clauses, clause, Cases, no_cases, case, Var, MethodName, MethodRow, CoreFunc, PackageVar, PackageRow, CoreProgram}
 use Rattle.go_core.specs.TypeOf.{listed_types, types_of, all_types, var_type, place_type, one_type, field_in, int_type}
-use Rattle.go_core.specs.SoundNode.{Around, with_var, with_all, with_break, with_loop, IsInt, IsBool, IsText, IsPrintable, IsInterface, IsSlice, IsArray, IsMap, IsChannel, IsGoodType, Fits, IsGateField, IsField, IsUnary, IsArithmetic, IsShift, IsOrder, IsOrdered, IsConversion, SlicesTo, HasRows, AnswersTo, IsRowOf, Calls, HasFuncType, IsSignature, HasMethodType, GoesInto, HasLength, HasCapacity, BuildsPart, IsBuilt, types_of_vars, AreDeclarable, method_at, under_one}
+use Rattle.go_core.specs.SoundNode.{Around, with_var, with_all, with_break, with_loop, IsInt, IsBool, IsText, IsPrintable, IsInterface, IsSlice, IsArray, IsMap, IsChannel, IsGoodType, Fits, IsGateField, IsField, IsUnary, IsArithmetic, IsShift, IsOrder, IsOrdered, IsConversion, SlicesTo, HasRows, AnswersTo, MayBe, IsRowOf, Calls, HasFuncType, IsSignature, HasMethodType, GoesInto, HasLength, HasCapacity, BuildsPart, IsBuilt, types_of_vars, AreDeclarable, method_at, under_one}
 
 -- the empty interface
 abbrev pub empty_interface : Ty
@@ -89,7 +89,7 @@ abbrev mutual
   SoundExpr p a (core.new_ t) = IsGoodType p t
   SoundExpr p a (core.wrap from t e) =
       SoundExpr p a e × Gives p e from × AnswersTo p from (underlying p.names t) × (IsInterface (underlying p.names from) → ⊥) × HasRows p from
-  SoundExpr p a (core.assert_ t ok e) = SoundExpr p a e × GivesSome p e IsInterface × IsGoodType p t
+  SoundExpr p a (core.assert_ t ok e) = SoundExpr p a e × GivesSome p e (MayBe p t) × IsGoodType p t
   SoundExpr p a (core.basic t e) = SoundExpr p a e × Gives p e t × (underlying p.names t ≡ empty_interface)
   SoundExpr p a (core.receive t ok e) = SoundExpr p a e × Gives p e t × IsChannel (underlying p.names t)
   SoundExpr p a (core.recover_ t) = underlying p.names t ≡ empty_interface
@@ -184,6 +184,11 @@ IsRanged p ty.str = Unit {0}
 IsRanged p (ty.mapping k v) = Unit {0}
 IsRanged p _ = ⊥
 
+-- without a value only the length of the array of a pointer is asked for, which is a range over a number
+abbrev pub ReadsArray : Ty → Option Var → Type 0
+ReadsArray (ty.pointer t) None = ⊥
+ReadsArray _ value = Unit {0}
+
 abbrev pub InScope : List Var → Option Var → Type 0
 InScope vars None = Unit {0}
 InScope vars (Some v) = var_type v.id vars ≡ Some v.type_
@@ -256,6 +261,7 @@ abbrev mutual
   SoundStmt p a (core.range_over label from e key value body) =
       IsNew label a × SoundExpr p a e × Gives p e from × IsRanged p (underlying p.names from) × InScope a.vars key × InScope a.vars value
       × IfThere key (RangesKey (underlying p.names from)) × IfThere value (RangesValue p (underlying p.names from)) × SoundStmts p (with_loop label a) body
+      × ReadsArray (underlying p.names from) value
   SoundStmt p a (core.labeled label body) = IsNew label a × SoundStmts p (with_break label a) body
   SoundStmt p a (core.branch kind label) = Contains (labels_for kind a) label
   SoundStmt p a (core.send t e v) = SoundExpr p a e × SoundExpr p a v × Gives p e t × (u : Ty) × Gives p v u × IsChannelOf (underlying p.names t) u

@@ -7,10 +7,12 @@ use Rattle.gj_base.specs.declared.kind.Op.{Op}
 use Rattle.gj_base.specs.declared.kind.Op.TheVariants as operator
 use Rattle.go_type.specs.Tree as ty
 use Rattle.go_type.specs.declared.types.IntName.{IntName}
+use Rattle.go_type.specs.declared.types.IntName.TheVariants as integer
 use Rattle.go_type.specs.Tree.{Ty, Tys, no_tys, more_tys, Specs, no_specs}
 use Rattle.go_type.specs.Underlying.{underlying}
 use Rattle.go_type.specs.MethodSet.{HasMethod}
 use Rattle.go_type.specs.Members.{Sought}
+use Rattle.go_type.specs.Exported.{IsHeld}
 use Rattle.go_type.specs.Assignability.{IsAssignable}
 use Rattle.go_core.specs.Layout.{kind_of, is_key_type, holds_by_value, shape_of, size}
 use Rattle.go_core.specs.Arithmetic.{wrapped}
@@ -164,21 +166,28 @@ IsOrdered _ = ⊥
 -- ---- "Conversions"
 
 abbrev pub IsByteOrRune : Ty → Type 0
-IsByteOrRune (ty.int name) = (kind_of name ≡ kinds.U8) ⊎ (kind_of name ≡ kinds.I32)
+IsByteOrRune (ty.int integer.Uint8) = Unit {0}
+IsByteOrRune (ty.int integer.Int32) = Unit {0}
 IsByteOrRune _ = ⊥
 
--- what a conversion can be beside one between types whose underlying types are identical but for tags
+-- integers, strings and slices of bytes or runes, by their underlying types
 abbrev pub Converts : CoreProgram → Ty → Ty → Type 0
 Converts p (ty.int a) (ty.int b) = Unit {0}
 Converts p (ty.int a) ty.str = Unit {0}
 Converts p ty.str (ty.slice t) = IsByteOrRune (underlying p.names t)
 Converts p (ty.slice t) ty.str = IsByteOrRune (underlying p.names t)
-Converts p (ty.pointer a) (ty.pointer b) = IsAlike (underlying p.names a) (underlying p.names b)
 Converts p a b = ⊥
 
--- no value is of the type of an untyped constant
+-- pointer types that no name stands for
+abbrev pub ConvertsPointer : CoreProgram → Ty → Ty → Type 0
+ConvertsPointer p (ty.pointer a) (ty.pointer b) = IsAlike (underlying p.names a) (underlying p.names b)
+ConvertsPointer p a b = ⊥
+
+-- no value is of the type of an untyped constant, of `nil` or of a call's several results
 abbrev pub IsTyped : Ty → Type 0
 IsTyped (ty.untyped basis) = ⊥
+IsTyped ty.nil = ⊥
+IsTyped (ty.tuple ts) = ⊥
 IsTyped _ = Unit {0}
 
 -- an interface value goes to an interface type whose methods its own type has
@@ -190,6 +199,7 @@ abbrev pub IsConversion : CoreProgram → Ty → Ty → Type 0
 IsConversion p from to =
     IsAlike (underlying p.names from) (underlying p.names to)
     ⊎ Converts p (underlying p.names from) (underlying p.names to)
+    ⊎ ConvertsPointer p from to
     ⊎ IsAssignable p.names from to × (IsInterface (underlying p.names from) ⊎ (IsInterface (underlying p.names to) → ⊥))
     × IsTyped (underlying p.names from) × AsksNoMore (underlying p.names from) (underlying p.names to)
 
@@ -202,7 +212,7 @@ SlicesTo p _ from to = ⊥
 
 -- ---- "Method sets": what an interface value can be asked for
 
--- each method of the type has its row, whose function has its signature
+-- a method of the type has its row, whose function has its signature
 pub record HasRow (p : CoreProgram) (t : Ty) (f : Sought) (params results : Tys) (variadic : Bool) : Type 0 where
   pub at : ℕ
   pub row : MethodRow
@@ -214,8 +224,10 @@ pub record HasRow (p : CoreProgram) (t : Ty) (f : Sought) (params results : Tys)
   pub results_fit : function.results ≡ results
   pub variadic_fits : function.variadic ≡ variadic
 
+-- each method of the type has its row, by its name as it is selected
 abbrev pub HasRows : CoreProgram → Ty → Type 0
-HasRows p t = (f : Sought) (params results : Tys) (variadic : Bool) → HasMethod p.names t f params results variadic → HasRow p t f params results variadic
+HasRows p t =
+    (f : Sought) (params results : Tys) (variadic : Bool) → IsHeld f.name f.package_ → HasMethod p.names t f params results variadic → HasRow p t f params results variadic
 
 -- each method of the interface has its row, whose function has its signature
 abbrev pub Answers : CoreProgram → Ty → Specs → Type 0
@@ -226,6 +238,11 @@ Answers p t ms =
 abbrev pub AnswersTo : CoreProgram → Ty → Ty → Type 0
 AnswersTo p t (ty.interface ms) = Answers p t ms
 AnswersTo p t _ = ⊥
+
+-- "Type assertions": a value of the interface type is asked for an interface, or for a type that has its methods
+abbrev pub MayBe : CoreProgram → Ty → Ty → Type 0
+MayBe p t (ty.interface ms) = IsInterface (underlying p.names t) ⊎ Answers p t ms
+MayBe p t _ = ⊥
 
 -- ---- callees
 

@@ -67,6 +67,10 @@ pub record SoundRow (p : CoreProgram) (row : MethodRow) : Type 0 where
   pub fits : (receiver.type_ ≡ row.type_) ⊎ (row.type_ ≡ ty.pointer receiver.type_) ⊎ (receiver.type_ ≡ ty.pointer row.type_)
   pub has_signature : HasMethod p.names row.type_ (sought row.name row.package_) function.params function.results function.variadic
 
+-- a method of a type has one row
+abbrev pub DifferInRow : MethodRow → MethodRow → Type 0
+DifferInRow a b = a.type_ ≡ b.type_ → a.name ≡ b.name → a.package_ ≢ b.package_
+
 -- ---- package variables
 
 abbrev pub type_in : Option PackageVar → List Ty
@@ -142,6 +146,7 @@ pub record Sound (p : CoreProgram) : Type 0 where
   pub variables_differ : AllPairs DifferInId (all_vars p)
   pub main_fits : IsPlainFunc p p.main
   pub rows : All (SoundRow p) p.methods
+  pub rows_differ : AllPairs DifferInRow p.methods
   pub package_variables : All (SoundVariable p) p.globals
   pub numbers_differ : AllPairs DifferInPackage p.globals
   pub packages : All (SoundPackage p) p.packages

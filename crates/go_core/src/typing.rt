@@ -8,8 +8,24 @@ ghost use Rattle.go_core.specs.CommunicationSteps.{
   UnreadyStays,
   WaitingKeeps,
 };
+ghost use Rattle.go_core.specs.ListedSample.{
+  MentionedAreListed,
+  NodesAreListed,
+  PartsAreListed,
+  SampleIsListed,
+};
 ghost use Rattle.go_core.specs.LocalSteps.{LocalStepsKeep};
-ghost use Rattle.go_core.specs.SoundSample.{SampleIsSound, TagsAreIgnored};
+ghost use Rattle.go_core.specs.SoundSample.{
+  AssertionsWithoutMethodAreNot,
+  NamedPointersAreNot,
+  NumbersAreNoRunes,
+  RangesWithoutValueAreNot,
+  SampleIsSound,
+  TagsAreIgnored,
+  TwoRowsAreNot,
+  ValuesOfNilAreNot,
+  ValuesWithMethodsAreWrapped,
+};
 ghost use Rattle.go_core.specs.TypingLaws.{
   ExprsOpenTyped,
   OperatorsTyped,
@@ -75,9 +91,32 @@ pub fn steps()
     ensures goes_on { GoingGoesOn }
 {}
 
-/// There is a Sound program, so what is said of such programs is said of something; and there is one that converts
-/// between types that differ in tags alone.
+/// There is a Sound program, so what is said of such programs is said of something; there is one that converts
+/// between types that differ in tags alone, and one that puts a value of a type with an exported method into an
+/// interface value.
 pub fn sample()
     ensures sound { SampleIsSound }
     ensures tags { TagsAreIgnored }
+    ensures methods { ValuesWithMethodsAreWrapped }
+{}
+
+/// Programs that no source gives are not Sound: one with two rows of a method, one that ranges over the array of a
+/// pointer without a value, one that asks an interface value for a type without its methods, and ones with conversions
+/// that Go lacks.
+pub fn refused()
+    ensures rows { TwoRowsAreNot }
+    ensures ranges { RangesWithoutValueAreNot }
+    ensures assertions { AssertionsWithoutMethodAreNot }
+    ensures pointers { NamedPointersAreNot }
+    ensures numbers { NumbersAreNoRunes }
+    ensures nil { ValuesOfNilAreNot }
+{}
+
+/// Which tables of types have all that a program mentions: one that lists them, and none without the type of run-time
+/// panics, without a type that a node has, or without a part of one of its own.
+pub fn listed()
+    ensures sample { SampleIsListed }
+    ensures mentioned { MentionedAreListed }
+    ensures nodes { NodesAreListed }
+    ensures parts { PartsAreListed }
 {}

@@ -1,5 +1,5 @@
 -- The two functions that a program has beside those of its package: the methods of the type of run-time panics.
-use Rattle.std.proofs.Common.{◌≡◌, inl, inr, ℕ, zero, suc, ◌+◌, ◌<◌, length, List, [], ◌∷◌, ◌++◌, refl, sym, subst, ap, ◌∙◌, arith, IsTrue, Bool, true, false, Some, if◌then◌else◌, slice_get, codes, All}
+use Rattle.std.proofs.Common.{◌≡◌, inl, inr, ℕ, zero, suc, ◌+◌, ◌<◌, length, List, [], ◌∷◌, ◌++◌, refl, sym, subst, ap, ◌∙◌, arith, IsTrue, Bool, true, false, Some, if◌then◌else◌, slice_get, codes, All, AllPairs}
 use Rattle.go_syntax.specs.Tree as t
 use Rattle.go_type.specs.Tree as ty
 use Rattle.go_type.specs.Tree.{Ty, no_tys, more_tys}
@@ -12,7 +12,7 @@ use Rattle.go_core.specs.Untagged.{untagged}
 use Rattle.go_core.specs.CoreTree.{CoreFunc, CoreProgram, Var}
 use Rattle.go_core.specs.TypeOf.{var_type}
 use Rattle.go_core.specs.SoundNode.{IsGoodType, HasRow}
-use Rattle.go_core.specs.SoundProgram.{SoundFunc, SoundRow, SoundHidden}
+use Rattle.go_core.specs.SoundProgram.{SoundFunc, SoundRow, SoundHidden, DifferInRow}
 use Rattle.go_typing.specs.Convert.{is_scalar}
 use Rattle.go_packages.specs.Known.{first_names, hidden}
 use Rattle.go_packages.specs.Checked.{known_in, functions_in, count_functions, var_at, error_function, runtime_function, method_at, program_of}
@@ -131,6 +131,12 @@ module _ (ds : List t.Decl) (more : List NamedTy) (names : (program_of ds).names
     has_signature = runtime_signature;
   }
   rows_sound (suc (suc i)) x l = let n : suc (suc i) < 2 = l in absurd (omega arith)
+
+  pub rows_apart : AllPairs DifferInRow p.methods
+  rows_apart i zero x l m = let n : i < 0 = l in absurd (omega arith)
+  rows_apart zero (suc zero) x l m = λ t n. absurd (cc)
+  rows_apart (suc i) (suc zero) x l m = let n : suc i < 1 = l in absurd (omega arith)
+  rows_apart i (suc (suc j)) x l m = let n : suc (suc j) < 2 = m in absurd (omega arith)
 
   error_row : HasRow p p.hidden (sought (codes "Error") []) no_tys (more_tys ty.str no_tys) false
   error_row = record { at = 0; row = method_at (codes "Error") count; function = error_function next; found = refl; is_row = refl; is_function = error_at; params_fit = refl; results_fit = refl; variadic_fits = refl }

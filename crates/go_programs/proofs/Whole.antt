@@ -24,7 +24,7 @@ use Rattle.go_programs.proofs.Package.{and_then_functions}
 use Rattle.go_programs.proofs.Bodies.{some_function, package_functions}
 use Rattle.go_programs.proofs.Main.{main_is_plain}
 use Rattle.go_programs.proofs.NamedTypes.{names_are_set, names_begin}
-use Rattle.go_programs.proofs.Generated.{error_sound, runtime_sound, rows_sound, hidden_sound}
+use Rattle.go_programs.proofs.Generated.{error_sound, runtime_sound, rows_sound, rows_apart, hidden_sound}
 
 -- ---- how many functions there are
 
@@ -132,6 +132,7 @@ module _ (ds : List t.Decl) (o : DeclsOfGrammar ds) (untold : told ds ≡ []) wh
         variables_differ = variables_differ ds;
         main_fits = main_is_plain ds untold m;
         rows = rows_sound ds b.0 b.1 number;
+        rows_differ = rows_apart ds b.0 b.1 number;
         package_variables = λ i x l. let n : i < 0 = l in absurd (omega arith);
         numbers_differ = λ i j x l n. let g : j < 0 = n in absurd (omega arith);
         packages = packages_sound ds;
