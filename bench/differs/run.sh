@@ -1,7 +1,7 @@
 #!/bin/sh
-# usage: run.sh [PROGRAM [SEED [COUNT [WHOLE [PLAYER]]]]]
+# usage: run.sh [PROGRAM [SEED [COUNT [WHOLE]]]]
 # Compares what `build` tells of COUNT random programs of each kind with what go/types tells of them, and what
-# WHOLE random programs that end print with what they print by the Go toolchain; PLAYER (go_player) plays them too.
+# WHOLE random programs that end print with what they print by the Go toolchain.
 set -e
 here=$(cd "$(dirname "$0")" && pwd)
 program=${1:-"$here/../../crates/gopherjs/out/gopherjs"}
@@ -13,5 +13,5 @@ python3 "$here/programs.py" "$work/programs" "${2:-1}" "${3:-1000}"
 GO111MODULE=off go build -o "$work/types" "$here/types.go"
 python3 "$here/compare.py" "$program" "$work/types" "$work/programs" || status=1
 python3 "$here/whole.py" "$work/whole" "${2:-1}" "${4:-200}"
-python3 "$here/whole_compare.py" "$program" "$work/whole" ${5:+"$5"} || status=1
+python3 "$here/whole_compare.py" "$program" "$work/whole" || status=1
 exit $status

@@ -1,14 +1,11 @@
-"""whole_compare.py GOPHERJS FOLDER [PLAYER]: runs each program of FOLDER, as whole.py wrote it, by the Go toolchain, by
-`gopherjs run`, by node from the script that `gopherjs build` stores, and by PLAYER (go_player), which plays the Go
-meaning, and prints where they differ. A played run that is stopped is counted apart."""
+"""whole_compare.py GOPHERJS FOLDER: runs each program of FOLDER, as whole.py wrote it, by the Go toolchain, by
+`gopherjs run` and by node from the script that `gopherjs build` stores, and prints where they differ."""
 import os
 import re
 import subprocess
 import sys
 
 SECONDS = 20
-STOPPED = 75
-MOST = 10000000
 
 
 def run(words, **more):
@@ -31,19 +28,13 @@ def ours(code, out, told):
     return code, out, at.group(1) if at else told
 
 
-# go_player tells the units of the run first.
-def played(code, out, told):
-    return ours(code, out, re.sub(rb'\A\d+ units\n', b'', told))
-
-
 def main():
     program, folder = os.path.abspath(sys.argv[1]), sys.argv[2]
-    player = os.path.abspath(sys.argv[3]) if len(sys.argv) > 3 else None
     binary = os.path.abspath(folder + '/go.bin')
     env = dict(os.environ, GOARCH='386', GOFLAGS='-mod=mod', GO111MODULE='on')
     subprocess.run(['go', 'build', '-gcflags=-N', '-o', binary, '.'], cwd=folder + '/go', env=env, check=True)
     names = sorted((d for d in os.listdir(folder) if re.fullmatch(r'p\d+', d)), key=lambda d: int(d[1:]))
-    wrong = stopped = 0
+    wrong = 0
     for name in names:
         where = f'{folder}/{name}'
         right = by_go(binary, name[1:])
@@ -55,15 +46,11 @@ def main():
             print(f'{name}: build ends with {code}: {told.decode(errors="replace").strip()[:200]}')
             continue
         kinds = [('node', ours(*run(['node', f'{where}/out.js']))), ('run', ours(*run([program, 'run', where])))]
-        if player:
-            kinds.append(('played', played(*run([player, 'run', '--steps', str(MOST), where]))))
         for kind, got in kinds:
-            if kind == 'played' and got[0] in ('time', STOPPED):
-                stopped += 1
-            elif got != right:
+            if got != right:
                 wrong += 1
                 print(f'{name}: {kind}: {difference(right, got)}')
-    print(f'{len(names)} programs, {wrong} differences, {stopped} played runs stopped')
+    print(f'{len(names)} programs, {wrong} differences')
     sys.exit(1 if wrong else 0)
 
 
