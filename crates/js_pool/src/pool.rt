@@ -1,10 +1,16 @@
 //! The tables.
 
-ghost use Rattle.std.specs.Prelude.{◌≡◌, ◌≤◌, ◌-◌, true, length, IfSome, ◌∷◌, []};
+ghost use Rattle.std.specs.Prelude.{◌≡◌, ◌≤◌, ◌-◌, true, length, IfSome, List, ℕ, ◌∷◌, []};
 ghost use Rattle.std.specs.Fmt.{decimal};
 ghost use Rattle.js_tree.specs.Script.{Expr};
-ghost use Rattle.js_pool.specs.Stands.{Keeps, opened, MakesNode, MakesBytes, MakesList, Stands, Shows, AddsItem, ClosesList, Puts, ClosesBytes};
-ghost use Rattle.js_pool.specs.Says.{AddsLine, ClosesBlock, AddsCase, ClosesCases, PutsNames, ClosesNames, MakesNames};
+ghost use Rattle.js_pool.specs.Stands.{HeldAt, Later, Keeps, opened, MakesNode, MakesBytes, MakesList, Stands, Shows, AddsItem, ClosesList, Puts, ClosesBytes};
+ghost use Rattle.js_pool.specs.Says.{AddsLine, ClosesBlock, Includes, AddsCase, ClosesCases, PutsNames, ClosesNames, MakesNames, AddsTop};
+ghost use Rattle.js_pool.specs.declared.node.Item.TheVariants as item;
+ghost use Rattle.js_pool.specs.declared.node.ExprId.{ExprId};
+ghost use Rattle.js_pool.specs.declared.node.Stmt.{Stmt};
+ghost use Rattle.js_pool.specs.declared.node.Case.{Case};
+ghost use Rattle.js_pool.specs.declared.name.Name.{Name};
+ghost use Rattle.js_pool.specs.declared.pool.Pool.{Pool};
 
 use crate::name::Name;
 use crate::node::{Block, Bytes, Case, Cases, ExprId, Item, Names, Node, Span, Stmt};
@@ -302,10 +308,13 @@ impl Pool {
     }
 
     /// Adds the statements of a closed block to the innermost open one.
-    pub fn include(&mut self, block: Block) {
+    pub fn include(&mut self, block: Block)
+        ensures { Includes self.old self.new block }
+    {
         let stmts = block.of(self.stmts.as_slice());
-        if self.lines.extend_from_slice(stmts).is_err() {
-            self.failed = true;
+        match self.lines.extend_from_slice(stmts) {
+            Ok(()) => {}
+            Err(_) => self.fail(),
         }
     }
 
@@ -415,24 +424,44 @@ impl Pool {
     }
 
     /// A function at the script's top.
-    pub fn function(&mut self, name: Name, params: Names, body: Block) {
+    pub fn function(&mut self, name: Name, params: Names, body: Block)
+        ensures { AddsTop self.old self.new (item.Function name params body) }
+    {
         self.top(Item::Function(name, params, body));
     }
 
     /// A variable at the script's top, with its first value.
-    pub fn global(&mut self, name: Name, e: ExprId) {
+    pub fn global(&mut self, name: Name, e: ExprId)
+        ensures { AddsTop self.old self.new (item.Global name e) }
+    {
         self.top(Item::Global(name, e));
     }
 
-    fn top(&mut self, item: Item) {
-        if self.items.push(item).is_err() || self.ends.push(self.nodes.len()).is_err() {
-            self.failed = true;
+    fn top(&mut self, item: Item)
+        ensures { AddsTop self.old self.new item }
+    {
+        self.end_item();
+        match self.items.push(item) {
+            Ok(()) => {}
+            Err(_) => self.fail(),
+        }
+    }
+
+    // The expressions so far are those of the items up to this one.
+    fn end_item(&mut self)
+        ensures { Keeps self.old self.new × ((end : Pool) → Later self.new end → self.new.items.items ≡ self.old.items.items) }
+    {
+        match self.ends.push(self.nodes.len()) {
+            Ok(()) => {}
+            Err(_) => self.fail(),
         }
     }
 }
 
 // The elements of a list from a number on, so many; fewer where the list ends before.
-fn part<T>(items: &[T], from: u32, many: u32) -> &[T] {
+fn part<T>(items: &[T], from: u32, many: u32) -> &[T]
+    ensures { (xs : List T) → HeldAt items.now «from» many xs → result.now ≡ xs }
+{
     let n = items.len();
     let from = (from as usize).min(n);
     let many = (many as usize).min(n - from);
@@ -441,35 +470,45 @@ fn part<T>(items: &[T], from: u32, many: u32) -> &[T] {
 
 impl Bytes {
     /// Its bytes.
-    pub fn of(self, table: &[u8]) -> &[u8] {
+    pub fn of(self, table: &[u8]) -> &[u8]
+        ensures { (xs : List ℕ) → HeldAt table.now self.from self.many xs → result.now ≡ xs }
+    {
         part(table, self.from, self.many)
     }
 }
 
 impl Span {
     /// Its expressions.
-    pub fn of(self, table: &[ExprId]) -> &[ExprId] {
+    pub fn of(self, table: &[ExprId]) -> &[ExprId]
+        ensures { (xs : List ExprId) → HeldAt table.now self.from self.many xs → result.now ≡ xs }
+    {
         part(table, self.from, self.many)
     }
 }
 
 impl Block {
     /// Its statements.
-    pub fn of(self, table: &[Stmt]) -> &[Stmt] {
+    pub fn of(self, table: &[Stmt]) -> &[Stmt]
+        ensures { (xs : List Stmt) → HeldAt table.now self.from self.many xs → result.now ≡ xs }
+    {
         part(table, self.from, self.many)
     }
 }
 
 impl Cases {
     /// Its cases.
-    pub fn of(self, table: &[Case]) -> &[Case] {
+    pub fn of(self, table: &[Case]) -> &[Case]
+        ensures { (xs : List Case) → HeldAt table.now self.from self.many xs → result.now ≡ xs }
+    {
         part(table, self.from, self.many)
     }
 }
 
 impl Names {
     /// Its names.
-    pub fn of(self, table: &[Name]) -> &[Name] {
+    pub fn of(self, table: &[Name]) -> &[Name]
+        ensures { (xs : List Name) → HeldAt table.now self.from self.many xs → result.now ≡ xs }
+    {
         part(table, self.from, self.many)
     }
 }

@@ -1,8 +1,10 @@
 //! Statements, each added to the innermost open block. ECMA-262 5.1, 12.
 
 ghost use Rattle.std.specs.Prelude.{None, Some};
+ghost use Rattle.js_tree.specs.Script as script;
 ghost use Rattle.js_pool.specs.Tree as tree;
-ghost use Rattle.js_pool.specs.Says.{AddsLine, AddsWith};
+ghost use Rattle.js_pool.specs.Names.{name_bytes};
+ghost use Rattle.js_pool.specs.Says.{AddsLine, AddsWith, AddsBody};
 ghost use Rattle.js_pool.specs.declared.node.Stmt.TheVariants as line;
 ghost use Rattle.js_pool.specs.declared.node.Else.TheVariants as tail;
 
@@ -178,7 +180,9 @@ impl Pool {
     }
 
     /// `x: switch (0) { case 0: .. }`, which `break x` leaves.
-    pub fn block_at(&mut self, x: Name, body: Block) {
+    pub fn block_at(&mut self, x: Name, body: Block)
+        ensures { AddsBody self.old self.new body (λ ss. script.switch 0 (Some (name_bytes x)) (tree.number 0) (script.case 0 ss script.no_cases)) }
+    {
         let mark = self.open_cases();
         self.case(0, body);
         let cases = self.close_cases(mark);
