@@ -3,8 +3,7 @@ use Rattle.std.specs.Prelude.{if◌then◌else◌}
 use Rattle.gj_base.specs.declared.kind.Kind.{Kind}
 use Rattle.gj_base.specs.declared.kind.Op.{Op}
 use Rattle.gj_base.specs.declared.kind.Op.TheVariants as op
-use Rattle.js_tree.specs.Script.{Expr, Exprs, no_exprs, expr}
-use Rattle.js_pool.specs.Tree.{null}
+use Rattle.js_tree.specs.Script.{Expr}
 use Rattle.js_int.specs.Kinds.{has_halves}
 use Rattle.js_int.specs.Small.{small_binary_tree, small_unary_tree}
 use Rattle.js_int.specs.Wide.{wide_binary_tree, wide_unary_tree}
@@ -19,9 +18,3 @@ unary_tree o k t = own_unary_tree o k t
 
 abbrev pub binary_tree : Op → Kind → Expr → Expr → Expr
 binary_tree o k s t = if has_halves k then wide_binary_tree o k s t else small_binary_tree o k s t
-
--- one operand or two
-abbrev pub lower_tree : Op → Kind → Exprs → Expr
-lower_tree o k no_exprs = null
-lower_tree o k (expr s no_exprs) = unary_tree o k s
-lower_tree o k (expr s (expr t ts)) = binary_tree o k s t

@@ -13,4 +13,4 @@ pub mod small;
 pub mod wide;
 
 pub use kinds::{is_signed, is_wide};
-pub use operation::{binary, lower, unary};
+pub use operation::{binary, unary};

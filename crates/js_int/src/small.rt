@@ -3,7 +3,7 @@
 ghost use Rattle.std.specs.Prelude.{◌≡◌};
 ghost use Rattle.js_tree.specs.Script.{Expr};
 ghost use Rattle.js_pool.specs.Stands.{Stands, Builds1, Builds2, Sees1, Sees2};
-ghost use Rattle.js_int.specs.Small.{wrapped_tree, masked_tree, centred_tree, product_tree, times_tree, multiplied_tree, quotient_tree, bits_tree, bits_of_tree, bitwise_tree, constant_of, shifted_left_tree, left_tree, left_by_tree, left_test_tree, right_tree, right_signed_tree, right_unsigned_tree, right_by_tree, right_test_tree, at_most_31_tree, compared_tree, small_unary_tree, small_not_tree};
+ghost use Rattle.js_int.specs.Small.{wrapped_tree, masked_tree, centred_tree, product_tree, times_tree, multiplied_tree, quotient_tree, bits_tree, bits_of_tree, bitwise_tree, constant_of, shifted_left_tree, left_tree, left_by_tree, left_test_tree, right_tree, right_signed_tree, right_unsigned_tree, right_by_tree, right_test_tree, at_most_31_tree, compared_tree, small_binary_tree, small_unary_tree, small_not_tree};
 
 use crate::kinds::is_signed;
 use gj_base::{Kind, Op};
@@ -234,7 +234,9 @@ fn at_most_31(p: &mut Pool, y: ExprId) -> ExprId
 // ---- all operations
 
 /// An operation on two numbers.
-pub fn binary(p: &mut Pool, op: Op, kind: Kind, x: ExprId, y: ExprId) -> ExprId {
+pub fn binary(p: &mut Pool, op: Op, kind: Kind, x: ExprId, y: ExprId) -> ExprId
+    ensures { Sees2 p.old p.new result x y (small_binary_tree op kind) }
+{
     match op {
         Op::Add => {
             let z = p.plus(x, y);
@@ -247,10 +249,10 @@ pub fn binary(p: &mut Pool, op: Op, kind: Kind, x: ExprId, y: ExprId) -> ExprId 
         Op::Mul => times(p, kind, x, y),
         Op::Div => quotient(p, kind, x, y),
         Op::Rem => p.rem(x, y),
-        Op::And => bits_of(p, op, kind, x, y),
-        Op::Or => bits_of(p, op, kind, x, y),
-        Op::Xor => bits_of(p, op, kind, x, y),
-        Op::AndNot => bits_of(p, op, kind, x, y),
+        Op::And => bits_of(p, Op::And, kind, x, y),
+        Op::Or => bits_of(p, Op::Or, kind, x, y),
+        Op::Xor => bits_of(p, Op::Xor, kind, x, y),
+        Op::AndNot => bits_of(p, Op::AndNot, kind, x, y),
         Op::Shl => left(p, kind, x, y),
         Op::Shr => right(p, kind, x, y),
         _ => compared(p, op, x, y),

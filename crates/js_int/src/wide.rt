@@ -1,7 +1,7 @@
 //! Numbers of 64 bits: an array of the high half and the low one.
 
 ghost use Rattle.js_pool.specs.Stands.{Builds1, Builds2};
-ghost use Rattle.js_int.specs.Wide.{half_tree, bits_at_tree, half_bits_tree, wide_bits_tree, compared_at_tree, equal_tree, unequal_tree, ordered_tree, wide_compared_tree, signed_call_tree, wide_unary_tree, wide_not_tree, not_at_tree};
+ghost use Rattle.js_int.specs.Wide.{half_tree, bits_at_tree, half_bits_tree, wide_bits_tree, compared_at_tree, equal_tree, unequal_tree, ordered_tree, wide_compared_tree, signed_call_tree, wide_binary_tree, wide_unary_tree, wide_not_tree, not_at_tree};
 
 use crate::kinds::is_signed;
 use gj_base::{Kind, Op};
@@ -103,7 +103,9 @@ fn signed_call(p: &mut Pool, word: &'static [u8], kind: Kind, x: ExprId, y: Expr
 }
 
 /// An operation on two numbers; the count of a shift has 32 bits.
-pub fn binary(p: &mut Pool, op: Op, kind: Kind, x: ExprId, y: ExprId) -> ExprId {
+pub fn binary(p: &mut Pool, op: Op, kind: Kind, x: ExprId, y: ExprId) -> ExprId
+    ensures { Builds2 p.old p.new result x y (wide_binary_tree op kind) }
+{
     match op {
         Op::Add => p.call2(b"$add64", x, y),
         Op::Sub => p.call2(b"$sub64", x, y),
@@ -112,10 +114,10 @@ pub fn binary(p: &mut Pool, op: Op, kind: Kind, x: ExprId, y: ExprId) -> ExprId 
         Op::Rem => signed_call(p, b"$mod64", kind, x, y),
         Op::Shl => p.call2(b"$shl64", x, y),
         Op::Shr => signed_call(p, b"$shr64", kind, x, y),
-        Op::And => bits(p, op, x, y),
-        Op::Or => bits(p, op, x, y),
-        Op::Xor => bits(p, op, x, y),
-        Op::AndNot => bits(p, op, x, y),
+        Op::And => bits(p, Op::And, x, y),
+        Op::Or => bits(p, Op::Or, x, y),
+        Op::Xor => bits(p, Op::Xor, x, y),
+        Op::AndNot => bits(p, Op::AndNot, x, y),
         _ => compared(p, op, kind, x, y),
     }
 }

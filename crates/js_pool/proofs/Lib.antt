@@ -1,3 +1,4 @@
 pub mod Shown
 pub mod Growth
 pub mod Nodes
+pub mod Held

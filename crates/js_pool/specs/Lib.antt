@@ -1,3 +1,5 @@
-pub mod Tree
 pub mod Names
+pub mod Tree
 pub mod Stands
+pub mod StmtTree
+pub mod Says

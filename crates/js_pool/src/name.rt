@@ -1,6 +1,11 @@
 //! Names.
 
+ghost use Rattle.std.specs.Prelude.{◌≡◌, ◌++◌, IfOk};
+ghost use Rattle.std.specs.Fmt.{decimal};
+ghost use Rattle.js_pool.specs.Names.{name_bytes};
+
 use gj_base::{NoMemory, Text};
+use itoa::Buffer;
 use std::alloc::Global;
 
 /// A name: a word of the compiler's own, alone or with a number after it.
@@ -12,7 +17,9 @@ pub enum Name {
 
 impl Name {
     /// The text of a name.
-    pub fn text(self, alloc: Global) -> Result<Text, NoMemory> {
+    pub fn text(self, alloc: Global) -> Result<Text, NoMemory>
+        ensures { IfOk result (λ t. t ≡ name_bytes self) }
+    {
         match self {
             Name::Word(word) => Text::from_slice(alloc, word),
             Name::Numbered(word, n) => numbered(alloc, word, n),
@@ -20,23 +27,11 @@ impl Name {
     }
 }
 
-fn numbered(alloc: Global, word: &[u8], n: u32) -> Result<Text, NoMemory> {
+fn numbered(alloc: Global, word: &[u8], n: u32) -> Result<Text, NoMemory>
+    ensures { IfOk result (λ t. t ≡ word.now ++ decimal n) }
+{
     let mut bytes = Vec::from_slice(alloc, word)?;
-    let room = &mut [0; 10];
-    bytes.extend_from_slice(decimal(n, room))?;
+    let mut room = Buffer::new();
+    bytes.extend_from_slice(room.format(n).as_bytes())?;
     Ok(Text::from_vec(bytes))
-}
-
-/// The decimal digits of a number.
-pub fn decimal(n: u32, room: &mut [u8; 10]) -> &[u8] {
-    let mut from: usize = 10;
-    let mut rest = n;
-    for i in 0..10 {
-        room[9 - i] = b'0' + (rest % 10) as u8;
-        if rest != 0 {
-            from = 9 - i;
-        }
-        rest /= 10;
-    }
-    &room[from.min(9)..]
 }

@@ -1,11 +1,20 @@
 //! The tables.
 
-ghost use Rattle.std.specs.Prelude.{◌≡◌, ◌≤◌, ◌-◌, true, length, IfSome};
+ghost use Rattle.std.specs.Prelude.{◌≡◌, ◌≤◌, ◌-◌, true, length, IfSome, List, ℕ, ◌∷◌, []};
+ghost use Rattle.std.specs.Fmt.{decimal};
 ghost use Rattle.js_tree.specs.Script.{Expr};
-ghost use Rattle.js_pool.specs.Stands.{Keeps, opened, MakesNode, MakesBytes, MakesList, Stands, Shows, AddsItem, ClosesList, Puts, ClosesBytes};
+ghost use Rattle.js_pool.specs.Stands.{HeldAt, Later, Keeps, opened, MakesNode, MakesBytes, MakesList, Stands, Shows, AddsItem, ClosesList, Puts, ClosesBytes};
+ghost use Rattle.js_pool.specs.Says.{AddsLine, ClosesBlock, Includes, AddsCase, ClosesCases, PutsNames, ClosesNames, MakesNames, AddsTop};
+ghost use Rattle.js_pool.specs.declared.node.Item.TheVariants as item;
+ghost use Rattle.js_pool.specs.declared.node.ExprId.{ExprId};
+ghost use Rattle.js_pool.specs.declared.node.Stmt.{Stmt};
+ghost use Rattle.js_pool.specs.declared.node.Case.{Case};
+ghost use Rattle.js_pool.specs.declared.name.Name.{Name};
+ghost use Rattle.js_pool.specs.declared.pool.Pool.{Pool};
 
-use crate::name::{Name, decimal};
+use crate::name::Name;
 use crate::node::{Block, Bytes, Case, Cases, ExprId, Item, Names, Node, Span, Stmt};
+use itoa::Buffer;
 use std::alloc::Global;
 
 /// All parts of a script under construction.
@@ -225,10 +234,10 @@ impl Pool {
 
     /// A decimal number at the end of the open string.
     pub fn put_number(&mut self, n: u32)
-        ensures { Keeps self.old self.new }
+        ensures { Puts self.old self.new (decimal n) }
     {
-        let room = &mut [0; 10];
-        self.put(decimal(n, room));
+        let mut room = Buffer::new();
+        self.put(room.format(n).as_bytes());
     }
 
     /// The bytes since a string was begun.
@@ -250,125 +259,209 @@ impl Pool {
     // ---- statements
 
     /// Adds a statement to the innermost open block.
-    pub fn say(&mut self, stmt: Stmt) {
-        if self.failed || self.lines.push(stmt).is_err() {
-            self.failed = true;
+    pub fn say(&mut self, stmt: Stmt)
+        ensures { AddsLine self.old self.new stmt }
+    {
+        match self.lines.push(stmt) {
+            Ok(()) => {}
+            Err(_) => self.fail(),
         }
     }
 
     /// Opens a block: the statements that follow are its own, until it is closed.
-    pub fn open(&self) -> Mark {
+    pub fn open(&self) -> Mark
+        ensures { result.0 ≡ length (opened self.now).lines }
+    {
         Mark(self.lines.len())
     }
 
     /// Closes a block, and gives its statements.
-    pub fn close(&mut self, mark: Mark) -> Block {
+    pub fn close(&mut self, mark: Mark) -> Block
+        ensures { ClosesBlock self.old self.new mark.0 result }
+    {
         let begun = mark.0.min(self.lines.len());
         let from = next_number(self.stmts.len());
         let many = next_number(self.lines.len() - begun);
-        let (Some(from), Some(many)) = (from, many) else {
-            self.failed = true;
-            return Block { from: 0, many: 0 };
-        };
-        if self.stmts.extend_from_slice(&self.lines[begun..]).is_err() {
-            self.failed = true;
+        match (from, many) {
+            (Some(from), Some(many)) => self.move_lines(begun, from, many),
+            _ => {
+                self.fail();
+                Block { from: 0, many: 0 }
+            }
         }
-        self.lines.truncate(begun);
-        Block { from, many }
+    }
+
+    fn move_lines(&mut self, begun: usize, from: u32, many: u32) -> Block
+        requires { begun ≤ length self.now.lines.items }
+        ensures { «from» ≡ length self.old.stmts.items → many ≡ length self.old.lines.items - begun → ClosesBlock self.old self.new begun result }
+    {
+        match self.stmts.extend_from_slice(&self.lines[begun..]) {
+            Ok(()) => {
+                self.lines.truncate(begun);
+                Block { from, many }
+            }
+            Err(_) => {
+                self.fail();
+                Block { from, many }
+            }
+        }
     }
 
     /// Adds the statements of a closed block to the innermost open one.
-    pub fn include(&mut self, block: Block) {
+    pub fn include(&mut self, block: Block)
+        ensures { Includes self.old self.new block }
+    {
         let stmts = block.of(self.stmts.as_slice());
-        if self.lines.extend_from_slice(stmts).is_err() {
-            self.failed = true;
+        match self.lines.extend_from_slice(stmts) {
+            Ok(()) => {}
+            Err(_) => self.fail(),
         }
     }
 
     // ---- cases
 
     /// Begins the cases of a `switch`.
-    pub fn open_cases(&self) -> Mark {
+    pub fn open_cases(&self) -> Mark
+        ensures { result.0 ≡ length (opened self.now).arms }
+    {
         Mark(self.arms.len())
     }
 
     /// One more case of the innermost open `switch`.
-    pub fn case(&mut self, number: u32, body: Block) {
-        if self.arms.push(Case { number, body }).is_err() {
-            self.failed = true;
+    pub fn case(&mut self, number: u32, body: Block)
+        ensures { AddsCase self.old self.new number body }
+    {
+        match self.arms.push(Case { number, body }) {
+            Ok(()) => {}
+            Err(_) => self.fail(),
         }
     }
 
     /// The cases since those of a `switch` were begun.
-    pub fn close_cases(&mut self, mark: Mark) -> Cases {
+    pub fn close_cases(&mut self, mark: Mark) -> Cases
+        ensures { ClosesCases self.old self.new mark.0 result }
+    {
         let begun = mark.0.min(self.arms.len());
         let from = next_number(self.cases.len());
         let many = next_number(self.arms.len() - begun);
-        let (Some(from), Some(many)) = (from, many) else {
-            self.failed = true;
-            return Cases { from: 0, many: 0 };
-        };
-        if self.cases.extend_from_slice(&self.arms[begun..]).is_err() {
-            self.failed = true;
+        match (from, many) {
+            (Some(from), Some(many)) => self.move_arms(begun, from, many),
+            _ => {
+                self.fail();
+                Cases { from: 0, many: 0 }
+            }
         }
-        self.arms.truncate(begun);
-        Cases { from, many }
+    }
+
+    fn move_arms(&mut self, begun: usize, from: u32, many: u32) -> Cases
+        requires { begun ≤ length self.now.arms.items }
+        ensures { «from» ≡ length self.old.cases.items → many ≡ length self.old.arms.items - begun → ClosesCases self.old self.new begun result }
+    {
+        match self.cases.extend_from_slice(&self.arms[begun..]) {
+            Ok(()) => {
+                self.arms.truncate(begun);
+                Cases { from, many }
+            }
+            Err(_) => {
+                self.fail();
+                Cases { from, many }
+            }
+        }
     }
 
     // ---- items
 
     /// Begins a list of parameters. One list of parameters is made at a time.
-    pub fn open_params(&self) -> Mark {
+    pub fn open_params(&self) -> Mark
+        ensures { result.0 ≡ length self.now.names.items }
+    {
         Mark(self.names.len())
     }
 
     /// One more parameter.
-    pub fn param(&mut self, name: Name) {
-        if self.names.push(name).is_err() {
-            self.failed = true;
+    pub fn param(&mut self, name: Name)
+        ensures { PutsNames self.old self.new (name ∷ []) }
+    {
+        match self.names.push(name) {
+            Ok(()) => {}
+            Err(_) => self.fail(),
         }
     }
 
     /// The parameters since a list of them was begun.
-    pub fn close_params(&mut self, mark: Mark) -> Names {
+    pub fn close_params(&mut self, mark: Mark) -> Names
+        ensures { ClosesNames self.old self.new mark.0 result }
+    {
         let begun = mark.0.min(self.names.len());
         let from = next_number(begun);
         let many = next_number(self.names.len() - begun);
-        let (Some(from), Some(many)) = (from, many) else {
-            self.failed = true;
-            return Names { from: 0, many: 0 };
-        };
-        Names { from, many }
+        match (from, many) {
+            (Some(from), Some(many)) => Names { from, many },
+            _ => {
+                self.fail();
+                Names { from: 0, many: 0 }
+            }
+        }
     }
 
     /// These parameters.
-    pub fn params(&mut self, names: &[Name]) -> Names {
+    pub fn params(&mut self, names: &[Name]) -> Names
+        ensures keeps { Keeps self.old self.new }
+        ensures makes { MakesNames self.new result names.now }
+    {
         let mark = self.open_params();
-        for name in names {
-            self.param(*name);
-        }
+        self.put_names(names);
         self.close_params(mark)
     }
 
+    fn put_names(&mut self, names: &[Name])
+        ensures { PutsNames self.old self.new names.now }
+    {
+        match self.names.extend_from_slice(names) {
+            Ok(()) => {}
+            Err(_) => self.fail(),
+        }
+    }
+
     /// A function at the script's top.
-    pub fn function(&mut self, name: Name, params: Names, body: Block) {
+    pub fn function(&mut self, name: Name, params: Names, body: Block)
+        ensures { AddsTop self.old self.new (item.Function name params body) }
+    {
         self.top(Item::Function(name, params, body));
     }
 
     /// A variable at the script's top, with its first value.
-    pub fn global(&mut self, name: Name, e: ExprId) {
+    pub fn global(&mut self, name: Name, e: ExprId)
+        ensures { AddsTop self.old self.new (item.Global name e) }
+    {
         self.top(Item::Global(name, e));
     }
 
-    fn top(&mut self, item: Item) {
-        if self.items.push(item).is_err() || self.ends.push(self.nodes.len()).is_err() {
-            self.failed = true;
+    fn top(&mut self, item: Item)
+        ensures { AddsTop self.old self.new item }
+    {
+        self.end_item();
+        match self.items.push(item) {
+            Ok(()) => {}
+            Err(_) => self.fail(),
+        }
+    }
+
+    // The expressions so far are those of the items up to this one.
+    fn end_item(&mut self)
+        ensures { Keeps self.old self.new × ((end : Pool) → Later self.new end → self.new.items.items ≡ self.old.items.items) }
+    {
+        match self.ends.push(self.nodes.len()) {
+            Ok(()) => {}
+            Err(_) => self.fail(),
         }
     }
 }
 
 // The elements of a list from a number on, so many; fewer where the list ends before.
-fn part<T>(items: &[T], from: u32, many: u32) -> &[T] {
+fn part<T>(items: &[T], from: u32, many: u32) -> &[T]
+    ensures { (xs : List T) → HeldAt items.now «from» many xs → result.now ≡ xs }
+{
     let n = items.len();
     let from = (from as usize).min(n);
     let many = (many as usize).min(n - from);
@@ -377,35 +470,45 @@ fn part<T>(items: &[T], from: u32, many: u32) -> &[T] {
 
 impl Bytes {
     /// Its bytes.
-    pub fn of(self, table: &[u8]) -> &[u8] {
+    pub fn of(self, table: &[u8]) -> &[u8]
+        ensures { (xs : List ℕ) → HeldAt table.now self.from self.many xs → result.now ≡ xs }
+    {
         part(table, self.from, self.many)
     }
 }
 
 impl Span {
     /// Its expressions.
-    pub fn of(self, table: &[ExprId]) -> &[ExprId] {
+    pub fn of(self, table: &[ExprId]) -> &[ExprId]
+        ensures { (xs : List ExprId) → HeldAt table.now self.from self.many xs → result.now ≡ xs }
+    {
         part(table, self.from, self.many)
     }
 }
 
 impl Block {
     /// Its statements.
-    pub fn of(self, table: &[Stmt]) -> &[Stmt] {
+    pub fn of(self, table: &[Stmt]) -> &[Stmt]
+        ensures { (xs : List Stmt) → HeldAt table.now self.from self.many xs → result.now ≡ xs }
+    {
         part(table, self.from, self.many)
     }
 }
 
 impl Cases {
     /// Its cases.
-    pub fn of(self, table: &[Case]) -> &[Case] {
+    pub fn of(self, table: &[Case]) -> &[Case]
+        ensures { (xs : List Case) → HeldAt table.now self.from self.many xs → result.now ≡ xs }
+    {
         part(table, self.from, self.many)
     }
 }
 
 impl Names {
     /// Its names.
-    pub fn of(self, table: &[Name]) -> &[Name] {
+    pub fn of(self, table: &[Name]) -> &[Name]
+        ensures { (xs : List Name) → HeldAt table.now self.from self.many xs → result.now ≡ xs }
+    {
         part(table, self.from, self.many)
     }
 }
