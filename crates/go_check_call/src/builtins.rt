@@ -1,6 +1,6 @@
 //! Calls of built-in functions. Go, "Built-in functions".
 
-use crate::calls::{are_typed, elements, spread, within};
+use crate::calls::{are_typed, are_values, elements, spread, within};
 use crate::host::host;
 use gj_base::{NoMemory, Place};
 use go_check_operand::assignment::{assignment, default_value, single_value};
@@ -37,6 +37,16 @@ fn bad(c: &mut Checker, place: Place, b: Builtin) -> Result<Operand, NoMemory> {
     c.unknown(place)
 }
 
+// Whether all arguments are values: not types, and not gates.
+fn takes_values(b: Builtin) -> bool {
+    match b {
+        Builtin::Append | Builtin::Cap | Builtin::Close | Builtin::Copy | Builtin::Delete => true,
+        Builtin::Len | Builtin::Panic | Builtin::Print | Builtin::Println | Builtin::Recover =>
+            true,
+        _ => false,
+    }
+}
+
 // How many arguments it takes, at least and at most.
 fn counts(b: Builtin) -> (usize, usize) {
     match b {
@@ -67,6 +77,9 @@ pub fn builtin(
         Builtin::Make | Builtin::New => (args, None),
         _ => spread(c, args)?,
     };
+    if takes_values(b) && !are_values(c, &args)? {
+        return c.unknown(place);
+    }
     let (least, most) = counts(b);
     if dots && b != Builtin::Append || args.len() < least || args.len() > most {
         return c.fail(FaultCode::WrongArgumentCount, place);
@@ -127,6 +140,9 @@ fn length(
         return c.constant_operand(place, int, value);
     }
     c.has_call = true;
+    if x.constant().is_some() && !c.is_string(x.ty) {
+        return bad(c, place, b);
+    }
     let x = default_value(c, x)?;
     if x.is_unknown() {
         return c.unknown(place);
@@ -318,7 +334,7 @@ fn delete(c: &mut Checker, place: Place, x: Operand, y: Operand) -> Result<Opera
     done(c, place, node)
 }
 
-// A size of `make`: F72 where it is no integer or a negative constant.
+// A size of `make`: F72 where it is no integer, or a constant that is negative or past `int`.
 fn size(
     c: &mut Checker,
     place: Place,
@@ -333,7 +349,7 @@ fn size(
         && c.is_integer(x.ty)
         && match x.constant() {
             Some(id) => match c.number_of(id) {
-                Some(n) => n >= 0,
+                Some(n) => n >= 0 && n <= 2147483647,
                 None => false,
             },
             None => true,
@@ -478,22 +494,20 @@ fn print(
     b: Builtin,
     args: &Vec<Operand>,
 ) -> Result<Operand, NoMemory> {
+    if !are_printable(c, args) {
+        return bad(c, place, b);
+    }
     let mut known = true;
-    let mut fits = true;
     let mut list: Vec<u32> = Vec::new(c.alloc);
     for number in 0..args.len() {
         if let Some(x) = args.get(number).copied() {
             let x = default_value(c, x)?;
             list.push(x.node.0)?;
             known &= !x.is_unknown();
-            fits &= x.is_unknown() || is_basic(c, x.ty);
         }
     }
     if !known {
         return c.unknown(place);
-    }
-    if !fits {
-        return bad(c, place, b);
     }
     let operands = c.nodes.list(list.as_slice())?;
     let ends_line = b == Builtin::Println;
@@ -507,11 +521,15 @@ fn print(
     )
 }
 
-fn is_basic(c: &Checker, t: TypeId) -> bool {
-    match c.shape(t) {
-        Shape::Bool | Shape::Str | Shape::Int(_) => true,
-        _ => false,
+// Whether each is a boolean, an integer, a string, or untyped.
+fn are_printable(c: &Checker, args: &Vec<Operand>) -> bool {
+    for x in args.iter() {
+        match c.shape(x.ty) {
+            Shape::Bool | Shape::Str | Shape::Int(_) | Shape::Untyped(_) | Shape::Nil => {}
+            _ => return false,
+        }
     }
+    true
 }
 
 fn recover(c: &mut Checker, place: Place) -> Result<Operand, NoMemory> {

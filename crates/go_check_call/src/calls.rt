@@ -158,6 +158,16 @@ pub fn are_typed(list: &Vec<Operand>) -> bool {
     !list.iter().any(|x| x.is_unknown())
 }
 
+/// Whether each operand is one value: F52 at each other one.
+pub fn are_values(c: &mut Checker, list: &Vec<Operand>) -> Result<bool, NoMemory> {
+    let mut good = true;
+    for x in list.iter() {
+        let x = single_value(c, *x)?;
+        good &= !x.is_unknown();
+    }
+    Ok(good)
+}
+
 /// `f(args)` of a value: F59 of no function.
 pub fn call(
     c: &mut Checker,
@@ -179,6 +189,9 @@ pub fn call(
     };
     let (f, receiver) = held_receiver(c, f);
     let (args, several) = spread(c, args)?;
+    if !are_values(c, &args)? {
+        return c.unknown(place);
+    }
     let gathers = variadic && !dots;
     if dots && (several.is_some() || !variadic) || !fits_count(params, gathers, args.len()) {
         return c.fail(FaultCode::WrongArgumentCount, place);

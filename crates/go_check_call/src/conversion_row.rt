@@ -1,6 +1,6 @@
 //! Calls of types. Go, "Conversions".
 
-use crate::calls::are_typed;
+use crate::calls::{are_typed, are_values};
 use gj_base::{NoMemory, Place};
 use go_check_operand::conversion::conversion;
 use go_check_state::{Checker, FaultCode, Operand};
@@ -14,7 +14,7 @@ pub fn conversion_call(
     args: &Vec<Operand>,
     dots: bool,
 ) -> Result<Operand, NoMemory> {
-    if !are_typed(args) {
+    if !are_typed(args) || !are_values(c, args)? {
         return c.unknown(place);
     }
     match args.first().copied() {

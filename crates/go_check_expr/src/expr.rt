@@ -283,12 +283,17 @@ fn listed_type(c: &mut Checker, e: &Expr, around: Around) -> Result<Operand, NoM
     }
 }
 
-// An operand whose type stands for nothing yet isn't typed.
+// An operand whose type stands for nothing yet isn't typed. A constant in parentheses stands where they begin.
 fn finished(c: &mut Checker, place: Place, x: Operand) -> Result<Operand, NoMemory> {
     if !x.is_type() && c.has(x.ty) && !c.need_parts(x.ty)? {
         return c.unknown(place);
     }
-    Ok(Operand { place, ..x })
+    match x.mode {
+        Mode::Constant(value) if x.place.offset != place.offset => {
+            c.constant_operand(place, x.ty, value)
+        }
+        _ => Ok(Operand { place, ..x }),
+    }
 }
 
 fn type_operand(c: &mut Checker, place: Place, t: TypeId) -> Result<Operand, NoMemory> {

@@ -2,9 +2,9 @@
 
 use crate::expr::{Around, NOTHING, operand};
 use gj_base::NoMemory;
-use go_check_state::{Checker, FaultCode, NONE, NameId};
+use go_check_state::{Checker, NONE, NameId};
 use go_check_type::interface_type::{InterfaceRows, add_interface, add_method};
-use go_check_type::parameters::{distinct, is_good_list, is_lone_name};
+use go_check_type::parameters::{bad_list, distinct, is_good_list, is_lone_name};
 pub use go_check_type::parameters::{has_names, param_name};
 use go_check_type::struct_type::{Embedded, StructRows, add_embedded, last_name, named_fields};
 use go_check_type::type_row::wanted_type;
@@ -84,11 +84,7 @@ pub fn members(
 /// A function type. Go, "Function types".
 #[cycle(operand)]
 pub fn signature(c: &mut Checker, sig: &Sig) -> Result<TypeId, NoMemory> {
-    let mut names: Vec<NameId> = Vec::new(c.alloc);
-    distinct(c, &mut names, &sig.params)?;
-    if let Results::List(list) = &sig.results {
-        distinct(c, &mut names, list)?;
-    }
+    let distinct = distinct_names(c, sig)?;
     let params = param_types(c, &sig.params, true)?;
     let results = result_types(c, &sig.results)?;
     let Some((params, variadic)) = params else {
@@ -97,7 +93,20 @@ pub fn signature(c: &mut Checker, sig: &Sig) -> Result<TypeId, NoMemory> {
     let Some((results, _)) = results else {
         return Ok(NONE);
     };
+    if !distinct {
+        return Ok(NONE);
+    }
     c.func_of(params, results, variadic)
+}
+
+// F82 at a parameter or a result with the name of an earlier one.
+fn distinct_names(c: &mut Checker, sig: &Sig) -> Result<bool, NoMemory> {
+    let mut names: Vec<NameId> = Vec::new(c.alloc);
+    let params = distinct(c, &mut names, &sig.params)?;
+    match &sig.results {
+        Results::List(list) => Ok(distinct(c, &mut names, list)? && params),
+        _ => Ok(params),
+    }
 }
 
 // The types of results, as of parameters.
@@ -120,17 +129,13 @@ fn result_types(
 }
 
 // The types of a parameter list, and whether the last one may have any number of arguments: F53 where it
-// is none.
+// is none, though its types are.
 #[cycle(operand)]
 fn param_types(
     c: &mut Checker,
     list: &Params,
     may_vary: bool,
 ) -> Result<Option<(Vec<TypeId>, bool)>, NoMemory> {
-    let good = is_good_list(list, may_vary);
-    if !good {
-        c.fault(FaultCode::BadParameters, list.place)?;
-    }
     let names = has_names(list);
     let mut types: Vec<TypeId> = Vec::new(c.alloc);
     let mut waiting = 0usize;
@@ -152,9 +157,9 @@ fn param_types(
         }
         number = number.saturating_add(1);
     }
-    if good {
-        Ok(Some((types, varies)))
-    } else {
-        Ok(None)
+    if is_good_list(list, may_vary) {
+        return Ok(Some((types, varies)));
     }
+    bad_list(c, list.place, &types)?;
+    Ok(None)
 }

@@ -42,11 +42,15 @@ pub fn default_value(c: &mut Checker, x: Operand) -> Result<Operand, NoMemory> {
     convert_untyped(c, x, t, FaultCode::NotAssignable)
 }
 
-/// A value where a type is wanted: F61 where it isn't assignable. Go, "Assignability".
+/// A value where a type is wanted: F61 where it isn't assignable. Where the type isn't known, nothing is told.
+/// Go, "Assignability".
 pub fn assignment(c: &mut Checker, x: Operand, t: TypeId) -> Result<Operand, NoMemory> {
-    let x = single_value(c, x)?;
-    if x.is_unknown() || !c.has(t) {
+    if !c.has(t) || !c.need(t)? {
         return c.unknown(x.place);
+    }
+    let x = single_value(c, x)?;
+    if x.is_unknown() {
+        return Ok(x);
     }
     let x = if is_untyped(c, x) {
         convert_untyped(c, x, t, FaultCode::NotAssignable)?

@@ -104,6 +104,9 @@ pub fn binary(
     x: Operand,
     y: Operand,
 ) -> Result<Operand, NoMemory> {
+    if x.is_unknown() || y.is_unknown() {
+        return c.unknown(place);
+    }
     let x = single_value(c, x)?;
     let y = single_value(c, y)?;
     if x.is_unknown() || y.is_unknown() {

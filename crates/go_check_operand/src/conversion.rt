@@ -26,7 +26,7 @@ pub fn conversion(
         }
     }
     if x.is_nil() {
-        return at(place, convert_untyped(c, x, t, FaultCode::BadConversion)?);
+        return convert_untyped(c, Operand { place, ..x }, t, FaultCode::BadConversion);
     }
     if is_untyped(c, x) {
         return convert_untyped_value(c, place, x, t);
@@ -82,7 +82,17 @@ fn constant_conversion(
             c.fault(FaultCode::ConstantDoesNotFit, x.place)?;
             Ok(Some(c.unknown(place)?))
         }
+        Represented::OtherKind if is_scalar(c, t) => {
+            Ok(Some(c.fail(FaultCode::BadConversion, place)?))
+        }
         Represented::OtherKind => Ok(None),
+    }
+}
+
+fn is_scalar(c: &Checker, t: TypeId) -> bool {
+    match c.shape(t) {
+        Shape::Bool | Shape::Int(_) | Shape::Str => true,
+        _ => false,
     }
 }
 

@@ -7,7 +7,8 @@ use go_check_state::{Checker, FaultCode, Operand};
 use go_type::predeclared::int_id;
 use go_type::types::IntName;
 
-/// An index: an untyped one takes `int` (own). F65 where it is no integer, or negative, or at the limit.
+/// An index: an untyped one takes `int` (own). F73 of `nil`; F65 where it is no integer, or a constant that is
+/// negative, past `int`, or at the limit.
 pub fn index(
     c: &mut Checker,
     x: Operand,
@@ -18,7 +19,10 @@ pub fn index(
     if x.is_unknown() {
         return Ok(x);
     }
-    if x.is_nil() || !c.is_integer(x.ty) {
+    if x.is_nil() {
+        return refuse(c, x, FaultCode::UntypedNil);
+    }
+    if !c.is_integer(x.ty) {
         return refuse(c, x, code);
     }
     if let Some(id) = x.constant() {
@@ -36,11 +40,11 @@ fn refuse(c: &mut Checker, x: Operand, code: FaultCode) -> Result<Operand, NoMem
     c.fail(code, x.place)
 }
 
-// Whether a constant is from 0 to below the limit.
+// Whether a constant is from 0 to below the limit, and an `int`.
 fn is_below(x: Option<i128>, limit: Option<i128>) -> bool {
     match (x, limit) {
-        (Some(x), Some(limit)) => x >= 0 && x < limit,
-        (Some(x), None) => x >= 0,
+        (Some(x), Some(limit)) => x >= 0 && x < limit && x <= 2147483647,
+        (Some(x), None) => x >= 0 && x <= 2147483647,
         _ => false,
     }
 }

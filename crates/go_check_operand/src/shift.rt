@@ -22,12 +22,14 @@ pub fn is_shift(op: Op) -> bool
     }
 }
 
-// The count: an untyped constant one takes `uint` (own).
-fn count(c: &mut Checker, place: Place, y: Operand) -> Result<Operand, NoMemory> {
+// The count: an untyped constant one takes `uint` (own). F33 where it is negative and the other operand can
+// be shifted.
+fn count(c: &mut Checker, place: Place, y: Operand, shifts: bool) -> Result<Operand, NoMemory> {
     if let Some(id) = y.constant() {
         match c.number_of(id) {
             None => return c.fail(FaultCode::BadShift, place),
-            Some(n) if n < 0 => return c.fail(FaultCode::NegativeShift, y.place),
+            Some(n) if n < 0 && shifts => return c.fail(FaultCode::NegativeShift, y.place),
+            Some(n) if n < 0 => return c.fail(FaultCode::BadShift, place),
             Some(_) => {}
         }
     }
@@ -52,16 +54,17 @@ pub fn shift(
         let nil = if x.is_nil() { x } else { y };
         return c.fail(FaultCode::UntypedNil, nil.place);
     }
-    if !c.is_integer(x.ty) {
-        return c.fail(FaultCode::BadShift, place);
-    }
+    let shifts = c.is_integer(x.ty);
     let by = match y.constant() {
         // A constant shift keeps the exact count.
         Some(id) if x.constant().is_some() && c.is_untyped(y.ty) && is_count(c, id) => y,
-        _ => count(c, place, y)?,
+        _ => count(c, place, y, shifts)?,
     };
     if by.is_unknown() {
         return c.unknown(place);
+    }
+    if !shifts {
+        return c.fail(FaultCode::BadShift, place);
     }
     if let (Some(a), Some(b)) = (x.constant(), by.constant()) {
         return shift_constants(c, place, op, x, a, b);

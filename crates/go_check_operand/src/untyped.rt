@@ -324,7 +324,8 @@ pub fn match_types(
     }
 }
 
-// An untyped operand beside a typed one: F55 at the whole where it is of another kind.
+// An untyped operand beside a typed one: F55 at the whole, which begins at a place, where it is of another
+// kind.
 fn convert_operand(
     c: &mut Checker,
     x: Operand,
@@ -337,8 +338,8 @@ fn convert_operand(
             Represented::OtherKind => c.fail(FaultCode::OperandMismatch, at),
             _ => convert_untyped(c, x, t, FaultCode::OperandMismatch),
         },
-        Mode::Nil => convert_untyped(c, whole, t, FaultCode::OperandMismatch),
-        _ => convert_untyped(c, x, t, FaultCode::OperandMismatch),
+        Mode::Constant(_) => convert_untyped(c, x, t, FaultCode::OperandMismatch),
+        _ => convert_untyped(c, whole, t, FaultCode::OperandMismatch),
     }
 }
 

@@ -31,8 +31,14 @@ pub fn functions<'a>(c: &mut Checker, u: &Units<'a>) -> Result<Vec<BodyRow<'a>>,
     }
     for number in 0..u.rows.len() {
         if let Some(row) = u.rows.get(number).copied() {
-            if let UnitForm::Var(_, Some(e)) = row.form {
-                literals_of(c, &mut rows, e)?;
+            match row.form {
+                UnitForm::Var(_, Some(e)) => literals_of(c, &mut rows, e)?,
+                UnitForm::Miscounted(Some(spec), _) => {
+                    for e in &spec.values {
+                        literals_of(c, &mut rows, e)?;
+                    }
+                }
+                _ => {}
             }
         }
     }

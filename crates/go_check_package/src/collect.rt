@@ -4,12 +4,10 @@ use crate::unit::{Unit, UnitForm, UnitName, Units};
 use gj_base::{NoMemory, Place};
 use go_check_state::node::Span;
 use go_check_state::state::{Colour, FuncRow, GlobalRow};
-use go_check_state::{BLANK, Checker, Entity, FaultCode, INIT, MAIN, NO_OBJECT, NONE, NameId};
+use go_check_state::{BLANK, Checker, Entity, FaultCode, INIT, NO_OBJECT, NONE, NameId};
 use go_check_stmt::BodyRow;
-use go_check_stmt::local::{counts_match, repeated};
-use go_syntax::tree::{
-    Block, Decl, DeclForm, File, Name, Params, Results, Sig, TypeSpec, ValueSpec,
-};
+use go_check_stmt::local::repeated;
+use go_syntax::tree::{Block, Decl, DeclForm, File, Name, Params, Sig, TypeSpec, ValueSpec};
 use go_type::types::TypeId;
 
 /// Collects the declarations of a file of the present package.
@@ -78,6 +76,20 @@ fn add_unit<'a>(
     Ok(())
 }
 
+// Whether the package has a function `init`.
+fn has_init(c: &Checker) -> bool {
+    let Some(id) = c.member(c.package, INIT) else {
+        return false;
+    };
+    match c.object(id) {
+        Some(object) => match object.entity {
+            Entity::Init => true,
+            _ => false,
+        },
+        None => false,
+    }
+}
+
 // Declares a name of the package: F99 at `init`.
 fn add_name(
     c: &mut Checker,
@@ -91,7 +103,8 @@ fn add_name(
     let mut object = None;
     if id == INIT {
         c.fault(FaultCode::BadMainOrInit, name.place)?;
-    } else {
+    }
+    if id != INIT || !has_init(c) {
         let before = c.member(c.package, id);
         let package = c.package;
         c.declare_in(package, id, name.place, entity, Some(unit))?;
@@ -119,7 +132,9 @@ fn const_spec<'a>(
         Some(from) => from.values.len(),
         None => 0,
     };
-    counts_match(c, spec, count)?;
+    if count != spec.names.len() {
+        return miscounted(c, u, spec, from, Some(iota));
+    }
     for number in 0..spec.names.len() {
         if let Some(name) = spec.names.get(number) {
             let unit = next_unit(c)?;
@@ -132,6 +147,21 @@ fn const_spec<'a>(
         }
     }
     Ok(())
+}
+
+// A declaration with another number of values than of names.
+fn miscounted<'a>(
+    c: &mut Checker,
+    u: &mut Units<'a>,
+    spec: &'a ValueSpec,
+    from: Option<&'a ValueSpec>,
+    iota: Option<usize>,
+) -> Result<(), NoMemory> {
+    let unit = next_unit(c)?;
+    for name in &spec.names {
+        add_name(c, u, name, unit, Entity::Unknown, 0)?;
+    }
+    add_unit(c, u, UnitForm::Miscounted(from, iota), spec.names.len(), 0)
 }
 
 fn type_spec<'a>(c: &mut Checker, u: &mut Units<'a>, spec: &'a TypeSpec) -> Result<(), NoMemory> {
@@ -189,8 +219,8 @@ fn add_global(
 
 fn var_spec<'a>(c: &mut Checker, u: &mut Units<'a>, spec: &'a ValueSpec) -> Result<(), NoMemory> {
     let several = spec.values.len() == 1 && spec.names.len() > 1;
-    if !spec.values.is_empty() && !several {
-        counts_match(c, spec, spec.values.len())?;
+    if !spec.values.is_empty() && !several && spec.values.len() != spec.names.len() {
+        return miscounted(c, u, spec, Some(spec), None);
     }
     if several {
         let unit = next_unit(c)?;
@@ -215,15 +245,6 @@ fn var_spec<'a>(c: &mut Checker, u: &mut Units<'a>, spec: &'a ValueSpec) -> Resu
         }
     }
     Ok(())
-}
-
-fn has_any(sig: &Sig) -> bool {
-    let results = match &sig.results {
-        Results::None => false,
-        Results::Type(_) => true,
-        Results::List(list) => !list.items.is_empty(),
-    };
-    results || !sig.params.items.is_empty()
 }
 
 fn add_body<'a>(
@@ -257,7 +278,7 @@ fn add_body<'a>(
     Ok(func.0)
 }
 
-// F99: `main` of the root, and `init`, have no parameters and results. Go, "Program execution".
+// A function; nothing refers to one named `init`. Go, "Package initialization".
 fn func<'a>(
     c: &mut Checker,
     u: &mut Units<'a>,
@@ -266,11 +287,12 @@ fn func<'a>(
     block: &'a Block,
 ) -> Result<(), NoMemory> {
     let id = c.names.intern(name.text.as_bytes())?;
-    if (id == INIT || id == MAIN && c.package == 0) && has_any(sig) {
-        c.fault(FaultCode::BadMainOrInit, name.place)?;
-    }
     let func = add_body(c, u, id, name.place, None, sig, block)?;
     let unit = next_unit(c)?;
+    if id == INIT && c.member(c.package, INIT).is_none() {
+        let package = c.package;
+        c.declare_in(package, INIT, name.place, Entity::Init, None)?;
+    }
     if id == INIT || id == BLANK {
         u.names.push(UnitName {
             name: id,

@@ -1,7 +1,8 @@
 //! Types, values and signatures of declarations, in whatever order they need one another.
 //!
 //! An attempt types one declaration. Where it needs one that isn't typed yet, what it added is taken
-//! back, and that one is tried first. A declaration that waits for itself is stuck.
+//! back, and that one is tried first. A declaration that waits for itself is stuck; the faults of its last
+//! attempt stay.
 
 use crate::methods::method;
 use crate::several::several_values;
@@ -11,10 +12,11 @@ use go_check_expr::expr::expr;
 use go_check_expr::{signature, type_expr};
 use go_check_operand::assignment::default_value;
 use go_check_state::state::Colour;
-use go_check_state::{Checker, Entity, FaultCode, NO_OBJECT, NONE, Operand};
+use go_check_state::{Checker, Entity, FaultCode, INIT, MAIN, NO_OBJECT, NONE, Operand, Shape};
+use go_check_stmt::constants::is_spec_typed;
 use go_check_stmt::local::const_entity;
 use go_check_stmt::sides::{Sides, as_type, one_each};
-use go_syntax::tree::{Expr, Sig, TypeSpec};
+use go_syntax::tree::{Expr, Sig, TypeSpec, ValueSpec};
 use go_type::types::TypeId;
 
 /// Enters the package and the file of a declaration.
@@ -61,6 +63,7 @@ fn visit(
     unit: u32,
 ) -> Result<(), NoMemory> {
     paint(c, unit, Colour::Grey);
+    let faults = c.faults.len();
     if attempt(c, u, unit)? {
         paint(c, unit, Colour::Done);
         return Ok(());
@@ -75,19 +78,21 @@ fn visit(
             }
         }
     }
-    if !pushed {
+    if pushed {
+        c.faults.truncate(faults);
+    } else {
         paint(c, unit, Colour::Stuck);
     }
     Ok(())
 }
 
-// Whether a declaration could be typed. What an attempt that came too early added is taken back.
+// Whether a declaration could be typed. What an attempt added that came too early is taken back, but for
+// its faults.
 fn attempt(c: &mut Checker, u: &mut Units<'_>, unit: u32) -> Result<bool, NoMemory> {
     let Some(row) = u.rows.get(unit as usize).copied() else {
         return Ok(true);
     };
     enter(c, row.package, row.file);
-    let faults = c.faults.len();
     let funcs = c.funcs.len();
     let embedded = c.embedded.len();
     c.blockers.clear();
@@ -95,7 +100,6 @@ fn attempt(c: &mut Checker, u: &mut Units<'_>, unit: u32) -> Result<bool, NoMemo
     if c.blockers.is_empty() {
         return Ok(true);
     }
-    c.faults.truncate(faults);
     c.funcs.truncate(funcs);
     c.embedded.truncate(embedded);
     Ok(false)
@@ -117,6 +121,7 @@ fn try_unit(c: &mut Checker, u: &Units<'_>, row: Unit<'_>) -> Result<(), NoMemor
         }
         UnitForm::Var(Some(t), _) => try_typed_var(c, u, row, t),
         UnitForm::Var(None, value) => try_var(c, u, row, value),
+        UnitForm::Miscounted(from, iota) => try_miscounted(c, name, from, iota),
         UnitForm::Func(sig) => try_func(c, name, row.func, sig),
         UnitForm::Method(list, at, sig) => method(c, row.func, list, at, sig),
     }
@@ -165,11 +170,59 @@ fn try_type(c: &mut Checker, name: UnitName, spec: &TypeSpec) -> Result<(), NoMe
     Ok(())
 }
 
+// F84 of names and values in another number, where all are typed. What the names stand for isn't known.
+fn try_miscounted(
+    c: &mut Checker,
+    name: UnitName,
+    from: Option<&ValueSpec>,
+    iota: Option<usize>,
+) -> Result<(), NoMemory> {
+    let typed = match from {
+        Some(from) => is_spec_typed(c, from, iota)?,
+        None => true,
+    };
+    if typed {
+        c.fault(FaultCode::CountMismatch, name.place)?;
+    }
+    Ok(())
+}
+
+// What the types of a signature stand for has to be known.
+fn need_types(c: &mut Checker, sig: TypeId) -> Result<(), NoMemory> {
+    let Shape::Func(params, results, _) = c.shape(sig) else {
+        return Ok(());
+    };
+    for number in 0..params {
+        let t = c.param(sig, number);
+        c.need(t)?;
+    }
+    for number in 0..results {
+        let t = c.result_type(sig, number);
+        c.need(t)?;
+    }
+    Ok(())
+}
+
+// F99: `main` of the root, and `init`, have no parameters and results. Go, "Program execution".
+fn tell_start(c: &mut Checker, name: UnitName, sig: TypeId) -> Result<(), NoMemory> {
+    if name.name != INIT && (name.name != MAIN || c.package != 0) {
+        return Ok(());
+    }
+    match c.shape(sig) {
+        Shape::Func(params, results, _) if params > 0 || results > 0 => {
+            c.fault(FaultCode::BadMainOrInit, name.place)
+        }
+        _ => Ok(()),
+    }
+}
+
 fn try_func(c: &mut Checker, name: UnitName, func: u32, sig: &Sig) -> Result<(), NoMemory> {
     let t = signature(c, sig)?;
+    need_types(c, t)?;
     if !c.blockers.is_empty() {
         return Ok(());
     }
+    tell_start(c, name, t)?;
     if (func as usize) < c.funcs.len() {
         c.funcs[func as usize].sig = t;
     }

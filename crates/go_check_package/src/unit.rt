@@ -3,7 +3,7 @@
 use gj_base::Place;
 use go_check_state::NameId;
 use go_check_stmt::BodyRow;
-use go_syntax::tree::{Expr, Name, Params, Sig, TypeSpec};
+use go_syntax::tree::{Expr, Name, Params, Sig, TypeSpec, ValueSpec};
 
 /// What a declaration is.
 #[derive(Clone, Copy)]
@@ -13,6 +13,8 @@ pub enum UnitForm<'a> {
     Const(Option<&'a Expr>, Option<&'a Expr>, usize),
     /// The type and the value of a variable, or of several that one call sets.
     Var(Option<&'a Expr>, Option<&'a Expr>),
+    /// The type and the values of names in another number, and the number of a constant declaration.
+    Miscounted(Option<&'a ValueSpec>, Option<usize>),
     Func(&'a Sig),
     Method(&'a Params, &'a Name, &'a Sig),
 }

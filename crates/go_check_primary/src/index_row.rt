@@ -9,14 +9,18 @@ use go_check_state::{Checker, EMPTY, FaultCode, Mode, Operand, Shape};
 use go_type::predeclared::{STR, int_id};
 use go_type::types::{Dir, IntName, TypeId};
 
-/// `x[i]`: F64 of a type without it.
+/// `x[i]`: F73 of `nil`, F64 of a type without it.
 pub fn index_row(
     c: &mut Checker,
     place: Place,
     x: Operand,
     i: Operand,
 ) -> Result<Operand, NoMemory> {
-    let x = single_value(c, x)?;
+    if x.is_unknown() || i.is_unknown() {
+        return c.unknown(place);
+    }
+    let x = indexed(c, x)?;
+    let i = single_value(c, i)?;
     if x.is_unknown() || i.is_unknown() {
         return c.unknown(place);
     }
@@ -27,12 +31,28 @@ pub fn index_row(
         Shape::Array(n, of) => element(c, place, x, i, n, of),
         Shape::Pointer(target) => match c.shape(target) {
             Shape::Array(n, of) => pointed_element(c, place, x, i, target, n, of),
-            _ => c.fail(FaultCode::NotIndexable, place),
+            _ => not_indexed(c, place, i),
         },
         Shape::Slice(of) => slice_element(c, place, x, i, of),
         Shape::Map(key, of) => entry(c, place, x, i, key, of),
-        _ => c.fail(FaultCode::NotIndexable, place),
+        _ => not_indexed(c, place, i),
     }
+}
+
+// What has no index: F73 at one that is `nil`.
+fn not_indexed(c: &mut Checker, place: Place, i: Operand) -> Result<Operand, NoMemory> {
+    if i.is_nil() {
+        return c.fail(FaultCode::UntypedNil, i.place);
+    }
+    c.fail(FaultCode::NotIndexable, place)
+}
+
+// What is indexed or sliced.
+fn indexed(c: &mut Checker, x: Operand) -> Result<Operand, NoMemory> {
+    if x.is_nil() {
+        return c.fail(FaultCode::UntypedNil, x.place);
+    }
+    single_value(c, x)
 }
 
 fn byte_at(c: &mut Checker, place: Place, x: Operand, i: Operand) -> Result<Operand, NoMemory> {
@@ -220,7 +240,15 @@ fn node_of(x: Option<Operand>) -> Option<NodeId> {
     }
 }
 
-/// `x[low:high:max]`: F64 of a type without it, F67 of an array that isn't addressable.
+// A bound as a value: F73 of `nil`.
+fn bound_value(c: &mut Checker, x: Option<Operand>) -> Result<Option<Operand>, NoMemory> {
+    match x {
+        Some(x) => Ok(Some(indexed(c, x)?)),
+        None => Ok(None),
+    }
+}
+
+/// `x[low:high:max]`: F73 of `nil`, F64 of a type without it, F67 of an array that isn't addressable.
 pub fn slice_row(
     c: &mut Checker,
     place: Place,
@@ -229,7 +257,13 @@ pub fn slice_row(
     high: Option<Operand>,
     max: Option<Operand>,
 ) -> Result<Operand, NoMemory> {
-    let x = single_value(c, x)?;
+    if x.is_unknown() || are_unknown(low, high, max) {
+        return c.unknown(place);
+    }
+    let x = indexed(c, x)?;
+    let low = bound_value(c, low)?;
+    let high = bound_value(c, high)?;
+    let max = bound_value(c, max)?;
     if x.is_unknown() || are_unknown(low, high, max) {
         return c.unknown(place);
     }
@@ -284,15 +318,15 @@ pub fn assertion(
     x: Operand,
     t: TypeId,
 ) -> Result<Operand, NoMemory> {
+    if x.is_unknown() || !c.has(t) {
+        return c.unknown(place);
+    }
     let x = single_value(c, x)?;
     if x.is_unknown() {
         return c.unknown(place);
     }
     if !c.is_interface(x.ty) {
         return c.fail(FaultCode::ImpossibleAssertion, x.place);
-    }
-    if !c.has(t) {
-        return c.unknown(place);
     }
     if !c.is_interface(t) && !c.assignable(t, x.ty) {
         return c.fail(FaultCode::ImpossibleAssertion, x.place);

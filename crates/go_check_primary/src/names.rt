@@ -7,16 +7,13 @@ use go_check_state::{BLANK, Checker, Entity, FaultCode, INIT, Mode, NONE, NameId
 use go_type::predeclared::untyped_id;
 use go_type::types::Basis;
 
-/// What a name is here: F50 where it has no declaration.
+/// What a name is here: F50 where it has no declaration. `_` is no value, and no type.
 pub fn name(c: &mut Checker, place: Place, text: &Text) -> Result<Operand, NoMemory> {
     let id = c.names.intern(text.as_bytes())?;
     if id == BLANK {
-        return c.fail(FaultCode::NotAValue, place);
+        return c.plain(Mode::NoValue, place, NONE);
     }
     let Some(found) = c.lookup(id) else {
-        if id == INIT {
-            return c.fail(FaultCode::BadMainOrInit, place);
-        }
         c.fault_of(FaultCode::Undefined, place, id)?;
         return c.unknown(place);
     };
@@ -93,6 +90,7 @@ pub fn entity(c: &mut Checker, place: Place, entity: Entity) -> Result<Operand, 
         Entity::Nil => c.plain(Mode::Nil, place, go_type::predeclared::NIL),
         Entity::Package(package) => c.plain(Mode::Package(package), place, NONE),
         Entity::Iota => iota(c, place),
+        Entity::Init => c.fail(FaultCode::BadMainOrInit, place),
         Entity::Missing => c.fail(FaultCode::NotInProfile, place),
     }
 }
@@ -130,8 +128,9 @@ pub fn member(
     text: &Text,
 ) -> Result<Operand, NoMemory> {
     let id = c.names.intern(text.as_bytes())?;
-    let Some(found) = c.member(package, id) else {
-        return no_member(c, place, at, id, FaultCode::NoFieldOrMethod);
+    let found = match c.member(package, id) {
+        Some(found) if id != INIT => found,
+        _ => return no_member(c, place, at, id, FaultCode::NoFieldOrMethod),
     };
     if !c.is_exported(id) {
         return no_member(c, place, at, id, FaultCode::NotExported);

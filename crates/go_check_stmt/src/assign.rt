@@ -2,14 +2,16 @@
 //! declarations".
 
 use crate::hold::{declare, hold, hold_place, nothing, sequence, store_one};
-use crate::sides::{Left, Sides, assigned, converted, right_sides, store_sides};
-use gj_base::{NoMemory, Op, Place};
+use crate::sides::{
+    Left, Sides, assigned, converted, exprs, miscounted, one_each, several, store_sides,
+};
+use gj_base::{NoMemory, Op, Place, Text};
 use go_check_call::calls::are_typed;
 use go_check_expr::expr::expr;
-use go_check_operand::assignment::default_value;
+use go_check_operand::assignment::{default_value, single_value};
 use go_check_operand::binary::binary;
 use go_check_state::node::{Node, PlaceNode, StmtId, Target, VarRef};
-use go_check_state::{BLANK, Checker, Entity, FaultCode, Mode, NONE, NameId, Operand};
+use go_check_state::{BLANK, Checker, EMPTY, Entity, FaultCode, Mode, NONE, NameId, Operand};
 use go_const::Const;
 use go_syntax::tree::{Expr, ExprForm};
 use go_type::predeclared::untyped_id;
@@ -43,6 +45,12 @@ pub fn left_side(c: &mut Checker, e: &Expr) -> Result<Left, NoMemory> {
     if is_blank(e) {
         return Ok(NOWHERE);
     }
+    let x = not_used(c, e)?;
+    target(c, x)
+}
+
+// An expression whose value isn't read: a variable that is all of it isn't used.
+fn not_used(c: &mut Checker, e: &Expr) -> Result<Operand, NoMemory> {
     let object = whole_name(c, e)?;
     let used = match object {
         Some(id) => match c.object(id) {
@@ -57,14 +65,33 @@ pub fn left_side(c: &mut Checker, e: &Expr) -> Result<Left, NoMemory> {
             c.objects[id as usize].used = used;
         }
     }
-    target(c, x)
+    Ok(x)
 }
 
-// The local variable that an expression is a whole name of.
+// An operand that is read and assigned: F52 of `_`.
+fn read_side(c: &mut Checker, e: &Expr) -> Result<Operand, NoMemory> {
+    let x = expr(c, e)?;
+    if is_blank(e) {
+        return single_value(c, x);
+    }
+    Ok(x)
+}
+
+// Whether a left side is typed.
+fn is_typed(c: &Checker, left: Left) -> bool {
+    left.blank || c.has(left.ty)
+}
+
+// The local variable that an expression is a whole name of, parentheses aside.
 fn whole_name(c: &mut Checker, e: &Expr) -> Result<Option<u32>, NoMemory> {
-    let ExprForm::Name(text) = &*e.form else {
-        return Ok(None);
-    };
+    match &*e.form {
+        ExprForm::Paren(x) => whole_name(c, x),
+        ExprForm::Name(text) => local_name(c, text),
+        _ => Ok(None),
+    }
+}
+
+fn local_name(c: &mut Checker, text: &Text) -> Result<Option<u32>, NoMemory> {
     let id = c.names.intern(text.as_bytes())?;
     let Some(found) = c.lookup(id) else {
         return Ok(None);
@@ -109,7 +136,7 @@ fn target(c: &mut Checker, x: Operand) -> Result<Left, NoMemory> {
     }
 }
 
-/// `x, y = z, w`: F84 where the counts differ.
+/// `x, y = z, w`: F84 where the counts differ and all are typed.
 pub fn assign(
     c: &mut Checker,
     place: Place,
@@ -117,30 +144,27 @@ pub fn assign(
     right: &Vec<Expr>,
 ) -> Result<StmtId, NoMemory> {
     let mut lefts: Vec<Left> = Vec::new(c.alloc);
+    let mut typed = true;
     for e in left {
-        lefts.push(left_side(c, e)?)?;
+        let side = left_side(c, e)?;
+        typed &= is_typed(c, side);
+        lefts.push(side)?;
     }
-    let Some(sides) = right_sides(c, right, left.len())? else {
-        c.fault(FaultCode::CountMismatch, place)?;
-        return nothing(c);
+    let values = exprs(c, right)?;
+    typed &= are_typed(&values);
+    let Some(sides) = one_each(c, values, left.len())? else {
+        return miscounted(c, place, typed);
     };
     let values = converted(c, &sides, &lefts)?;
     store_sides(c, Vec::new(c.alloc), &sides, &lefts, &values)
 }
 
-// F84 where a statement that takes one expression has several.
-fn only<'a>(
-    c: &mut Checker,
-    place: Place,
-    list: &'a Vec<Expr>,
-) -> Result<Option<&'a Expr>, NoMemory> {
-    if list.len() != 1 {
-        c.fault(FaultCode::CountMismatch, place)?;
-    }
-    Ok(list.first())
+// The expression of a list of one.
+fn only(list: &Vec<Expr>) -> Option<&Expr> {
+    if list.len() == 1 { list.first() } else { None }
 }
 
-/// `x op= y`. Go, "Assignments".
+/// `x op= y`: F84 where there are several, and all are typed. Go, "Assignments".
 pub fn assign_op(
     c: &mut Checker,
     place: Place,
@@ -148,12 +172,22 @@ pub fn assign_op(
     op: Op,
     right: &Vec<Expr>,
 ) -> Result<StmtId, NoMemory> {
-    let (Some(e), Some(r)) = (only(c, place, left)?, only(c, place, right)?) else {
-        return nothing(c);
-    };
-    let x = expr(c, e)?;
-    let y = expr(c, r)?;
-    update(c, x, op, y)
+    if let (Some(e), Some(r)) = (only(left), only(right)) {
+        let x = read_side(c, e)?;
+        let y = expr(c, r)?;
+        return update(c, x, op, y);
+    }
+    let mut typed = true;
+    for e in left {
+        if !is_blank(e) {
+            let x = expr(c, e)?;
+            let side = target(c, x)?;
+            typed &= is_typed(c, side);
+        }
+    }
+    let values = exprs(c, right)?;
+    typed &= are_typed(&values);
+    miscounted(c, place, typed)
 }
 
 // Whether nothing runs when an operand is evaluated.
@@ -195,6 +229,10 @@ fn held(
 
 // The value of the operator goes back to the left side.
 fn update(c: &mut Checker, x: Operand, op: Op, y: Operand) -> Result<StmtId, NoMemory> {
+    let left = target(c, x)?;
+    if !is_typed(c, left) {
+        return nothing(c);
+    }
     let mut parts: Vec<u32> = Vec::new(c.alloc);
     let x = held(c, &mut parts, x, is_quiet(y))?;
     let z = binary(c, x.place, op, x, y)?;
@@ -217,16 +255,16 @@ pub fn inc_dec(
     list: &Vec<Expr>,
     up: bool,
 ) -> Result<StmtId, NoMemory> {
-    let Some(e) = only(c, place, list)? else {
-        return nothing(c);
+    let Some(e) = only(list) else {
+        return several(c, place, list);
     };
-    let x = expr(c, e)?;
+    let x = read_side(c, e)?;
     let one = c.add_const(Const::Int(1))?;
     let y = c.constant_operand(x.place, untyped_id(Basis::Int), one)?;
     update(c, x, if up { Op::Add } else { Op::Sub }, y)
 }
 
-/// A name on the left of `:=`, with the object of the innermost block that has it.
+/// A left side of `:=`: a name, with the object of the innermost block that has it. What is no name has none.
 #[derive(Clone, Copy, Debug)]
 struct LeftName {
     name: NameId,
@@ -234,58 +272,112 @@ struct LeftName {
     old: Option<u32>,
 }
 
-// F83 at a left side that is no name, F82 at a name that was there.
-fn left_names(c: &mut Checker, left: &Vec<Expr>) -> Result<Option<Vec<LeftName>>, NoMemory> {
-    let mut out: Vec<LeftName> = Vec::new(c.alloc);
-    let mut good = true;
-    for e in left {
-        match &*e.form {
-            ExprForm::Name(text) => {
-                let name = c.names.intern(text.as_bytes())?;
-                if name != BLANK && out.iter().any(|l| l.name == name) {
-                    c.fault_of(FaultCode::Redeclared, e.place, name)?;
-                    good = false;
-                }
-                let old = c.innermost(name);
-                out.push(LeftName {
-                    name,
-                    place: e.place,
-                    old,
-                })?;
-            }
-            _ => {
-                expr(c, e)?;
-                c.fault(FaultCode::BadDefine, e.place)?;
-                good = false;
-            }
-        }
+impl LeftName {
+    // Whether it declares no name, since it is `_` or none.
+    fn is_nowhere(self) -> bool {
+        self.name == BLANK || self.name == EMPTY
     }
-    if good { Ok(Some(out)) } else { Ok(None) }
 }
 
-/// `x, y := z, w`: F83 without a new name.
+/// The sides of `:=`.
+#[derive(Drop)]
+struct Defined {
+    names: Vec<LeftName>,
+    values: Vec<Operand>,
+    /// Whether all are typed, and whether something is told of the names.
+    typed: bool,
+    told: bool,
+    /// Whether there is a new name, or what is none.
+    new: bool,
+}
+
+/// What is no name on the left of `:=`: F83, where it is typed.
+pub fn no_name(c: &mut Checker, e: &Expr) -> Result<(), NoMemory> {
+    let x = not_used(c, e)?;
+    if !x.is_unknown() {
+        c.fault(FaultCode::BadDefine, e.place)?;
+    }
+    Ok(())
+}
+
+// F83 at a left side that is no name, F82 at a name that was there.
+fn left_names(c: &mut Checker, left: &Vec<Expr>) -> Result<Vec<LeftName>, NoMemory> {
+    let mut out: Vec<LeftName> = Vec::new(c.alloc);
+    for e in left {
+        let name = match &*e.form {
+            ExprForm::Name(text) => c.names.intern(text.as_bytes())?,
+            _ => {
+                no_name(c, e)?;
+                EMPTY
+            }
+        };
+        let mut l = LeftName {
+            name,
+            place: e.place,
+            old: None,
+        };
+        if !l.is_nowhere() {
+            if out.iter().any(|other| other.name == name) {
+                c.fault_of(FaultCode::Redeclared, e.place, name)?;
+            }
+            l.old = c.innermost(name);
+        }
+        out.push(l)?;
+    }
+    Ok(out)
+}
+
+// Whether a left side is typed: one that isn't new is a variable whose type is known.
+fn is_typed_name(c: &Checker, l: LeftName) -> bool {
+    let Some(id) = l.old else {
+        return l.name != EMPTY;
+    };
+    match c.object(id) {
+        Some(object) => match object.entity {
+            Entity::Local(_, t) => c.has(t),
+            _ => false,
+        },
+        None => false,
+    }
+}
+
+fn both_sides(c: &mut Checker, left: &Vec<Expr>, right: &Vec<Expr>) -> Result<Defined, NoMemory> {
+    let faults = c.faults.len();
+    let names = left_names(c, left)?;
+    let told = c.faults.len() != faults;
+    let mut typed = true;
+    let mut new = false;
+    for l in names.iter() {
+        typed &= is_typed_name(c, *l);
+        new |= l.old.is_none() && l.name != BLANK;
+    }
+    let values = exprs(c, right)?;
+    typed &= are_typed(&values);
+    Ok(Defined {
+        names,
+        values,
+        typed,
+        told,
+        new,
+    })
+}
+
+/// `x, y := z, w`: F83 without a new name, F84 where the counts differ, where all are typed.
 pub fn define(
     c: &mut Checker,
     place: Place,
     left: &Vec<Expr>,
     right: &Vec<Expr>,
 ) -> Result<StmtId, NoMemory> {
-    let names = left_names(c, left)?;
-    let sides = right_sides(c, right, left.len())?;
-    let Some(names) = names else {
-        return nothing(c);
-    };
-    let typed = match &sides {
-        Some(sides) => are_typed(&sides.values),
-        None => true,
-    };
-    if typed && !names.iter().any(|l| l.old.is_none() && l.name != BLANK) {
+    let d = both_sides(c, left, right)?;
+    if d.typed && !d.new {
         c.fault(FaultCode::BadDefine, place)?;
     }
-    let sides = match sides {
+    let counts = d.typed && d.new && !d.told;
+    let sides = match one_each(c, d.values, left.len())? {
         Some(sides) => sides,
         None => {
-            c.fault(FaultCode::CountMismatch, place)?;
+            miscounted(c, place, counts)?;
             Sides {
                 values: Vec::new(c.alloc),
                 results: None,
@@ -295,8 +387,8 @@ pub fn define(
     let mut parts: Vec<u32> = Vec::new(c.alloc);
     let mut lefts: Vec<Left> = Vec::new(c.alloc);
     let mut values: Vec<Operand> = Vec::new(c.alloc);
-    for number in 0..names.len() {
-        if let Some(l) = names.get(number).copied() {
+    for number in 0..d.names.len() {
+        if let Some(l) = d.names.get(number).copied() {
             let x = match sides.values.get(number).copied() {
                 Some(x) => x,
                 None => c.unknown(l.place)?,
@@ -305,6 +397,20 @@ pub fn define(
         }
     }
     store_sides(c, parts, &sides, &lefts, &values)
+}
+
+/// `x, y := z, w` where it may not stand: F83, where all are typed.
+pub fn undeclared(
+    c: &mut Checker,
+    place: Place,
+    left: &Vec<Expr>,
+    right: &Vec<Expr>,
+) -> Result<(), NoMemory> {
+    let d = both_sides(c, left, right)?;
+    if d.typed && !d.told {
+        c.fault(FaultCode::BadDefine, place)?;
+    }
+    Ok(())
 }
 
 // A name of the left with its value.
@@ -326,7 +432,7 @@ fn define_one(
         assigned(c, x, left)?
     };
     values.push(x)?;
-    if l.old.is_some() || l.name == BLANK {
+    if l.old.is_some() || l.is_nowhere() {
         lefts.push(left)?;
         return Ok(());
     }

@@ -164,7 +164,7 @@ fn enter(c: &mut Checker, func: u32, row: FuncRow) {
     c.current = Some(func);
 }
 
-// The body of a function: F87 at its end where it has results and may run to the end.
+// The body of a function: F87 at its end where it has results and may run to the end, and all is typed.
 fn function_body(c: &mut Checker, body: BodyRow<'_>) -> Result<(), NoMemory> {
     let Some(row) = c.func(body.func) else {
         return Ok(());
@@ -185,11 +185,13 @@ fn function_body(c: &mut Checker, body: BodyRow<'_>) -> Result<(), NoMemory> {
         block.place,
     )?;
     labels_in(c, &mut f, &block.stmts)?;
+    let before = c.told();
     let core = stmt_list(c, &mut f, &block.stmts, NONE_OF_THEM)?;
     f.tell_labels(c)?;
     c.close();
     c.current = None;
-    if !returns_nothing(&body.sig.results) && !ends(c, &block.stmts) {
+    let typed = c.has(row.sig) && c.told() == before;
+    if typed && !returns_nothing(&body.sig.results) && !ends(c, &block.stmts) {
         c.fault(FaultCode::MissingReturn, block.end)?;
     }
     let params = c.nodes.list(vars.as_slice())?;

@@ -8,8 +8,39 @@ use go_check_operand::untyped::convert_untyped;
 use go_check_state::node::ConstId;
 use go_check_state::{Checker, FaultCode, Operand, Shape};
 use go_const::Const;
-use go_syntax::tree::Expr;
+use go_syntax::tree::{Expr, ValueSpec};
 use go_type::types::TypeId;
+
+/// Whether the type and the values of a declaration are typed, where `iota` has a number if it is one of constants.
+pub fn is_spec_typed(
+    c: &mut Checker,
+    spec: &ValueSpec,
+    iota: Option<usize>,
+) -> Result<bool, NoMemory> {
+    let mut typed = match &spec.ty {
+        Some(e) => {
+            let t = type_expr(c, e, true)?;
+            c.has(t)
+        }
+        None => true,
+    };
+    for e in &spec.values {
+        typed &= !value_of(c, e, iota)?.is_unknown();
+    }
+    Ok(typed)
+}
+
+// A value where `iota` has a number, or none.
+fn value_of(c: &mut Checker, e: &Expr, iota: Option<usize>) -> Result<Operand, NoMemory> {
+    let outer = c.iota;
+    c.iota = match iota {
+        Some(number) => Some(c.add_const(Const::Int(number as i128))?),
+        None => None,
+    };
+    let x = expr(c, e)?;
+    c.iota = outer;
+    Ok(x)
+}
 
 /// The value and the type of a constant: F61 where the value is no constant, or the type has none.
 pub fn constant_value(
@@ -22,17 +53,9 @@ pub fn constant_value(
         Some(e) => Some(type_expr(c, e, true)?),
         None => None,
     };
-    let outer = c.iota;
-    let number = c.add_const(Const::Int(iota as i128))?;
-    c.iota = Some(number);
-    let x = expr(c, value)?;
-    c.iota = outer;
-    let x = single_value(c, x)?;
-    if x.is_unknown() {
-        return Ok(None);
-    }
+    let x = value_of(c, value, Some(iota))?;
     let x = match t {
-        None => x,
+        None => single_value(c, x)?,
         Some(t) => typed(c, x, t)?,
     };
     match x.constant() {
@@ -54,6 +77,10 @@ fn typed(c: &mut Checker, x: Operand, t: TypeId) -> Result<Operand, NoMemory> {
     match c.shape(t) {
         Shape::Bool | Shape::Int(_) | Shape::Str => {}
         _ => return c.fail(FaultCode::NotAssignable, x.place),
+    }
+    let x = single_value(c, x)?;
+    if x.is_unknown() {
+        return Ok(x);
     }
     let y = if c.is_untyped(x.ty) {
         convert_untyped(c, x, t, FaultCode::NotAssignable)?

@@ -1,12 +1,13 @@
 //! `if`, `for`, `return` and branches. Go, "If statements", "For statements", "Return statements".
 
+use crate::assign::undeclared;
 use crate::frame::Frame;
 use crate::hold::{both, nothing};
 use crate::sides::{Sides, as_type, exprs, one_each, return_sides};
 use gj_base::{NoMemory, Place};
 use go_check_call::calls::are_typed;
 use go_check_expr::expr::expr;
-use go_check_operand::assignment::{default_value, single_value};
+use go_check_operand::assignment::default_value;
 use go_check_state::node::{NodeId, StmtId, StmtNode};
 use go_check_state::{Checker, FaultCode, NameId, Operand, Shape};
 use go_syntax::tree::{Expr, Name, Stmt, StmtForm};
@@ -14,15 +15,10 @@ use go_syntax::tree::{Expr, Name, Stmt, StmtForm};
 /// A condition: F86 where it isn't boolean.
 pub fn condition(c: &mut Checker, e: &Expr) -> Result<NodeId, NoMemory> {
     let x = expr(c, e)?;
-    let x = single_value(c, x)?;
-    if x.is_unknown() {
-        return Ok(x.node);
-    }
-    if !x.is_nil() && !c.is_boolean(x.ty) {
-        c.fault(FaultCode::NotBoolean, e.place)?;
-        return Ok(x.node);
-    }
     let x = default_value(c, x)?;
+    if !x.is_unknown() && !c.is_boolean(x.ty) {
+        c.fault(FaultCode::NotBoolean, e.place)?;
+    }
     Ok(x.node)
 }
 
@@ -68,12 +64,11 @@ pub fn loop_row(
     both(c, init, second)
 }
 
-/// Whether the last part of a `for` declares: F83.
+/// Whether the last part of a `for` declares: F83, where its sides are typed.
 pub fn declares(c: &mut Checker, s: &Stmt) -> Result<bool, NoMemory> {
     match &*s.form {
-        StmtForm::Define(_, right) => {
-            exprs(c, right)?;
-            c.fault(FaultCode::BadDefine, s.place)?;
+        StmtForm::Define(left, right) => {
+            undeclared(c, s.place, left, right)?;
             Ok(true)
         }
         _ => Ok(false),

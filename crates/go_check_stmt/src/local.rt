@@ -1,10 +1,11 @@
 //! Declarations in bodies. Go, "Constant declarations", "Type declarations", "Variable declarations".
 
 use crate::assign::{NOWHERE, new_variable, variable_side};
-use crate::constants::constant_value;
+use crate::constants::{constant_value, is_spec_typed};
 use crate::hold::{declare, nothing, sequence};
-use crate::sides::{Left, Sides, as_type, right_sides, store_sides};
+use crate::sides::{Left, Sides, as_type, exprs, one_each, store_sides};
 use gj_base::NoMemory;
+use go_check_call::calls::are_typed;
 use go_check_expr::type_expr;
 use go_check_operand::assignment::default_value;
 use go_check_state::node::StmtId;
@@ -56,15 +57,34 @@ fn consts(c: &mut Checker, specs: &Vec<ValueSpec>) -> Result<StmtId, NoMemory> {
     nothing(c)
 }
 
-/// F84 where a declaration's names and values differ in number.
-pub fn counts_match(c: &mut Checker, spec: &ValueSpec, values: usize) -> Result<bool, NoMemory> {
-    if spec.names.len() == values {
-        return Ok(true);
+// F84 where a declaration's names and values differ in number, and all is typed.
+fn counts_differ(c: &mut Checker, names: &Vec<Name>, typed: bool) -> Result<(), NoMemory> {
+    match names.first() {
+        Some(name) if typed => c.fault(FaultCode::CountMismatch, name.place),
+        _ => Ok(()),
     }
-    if let Some(name) = spec.names.first() {
-        c.fault(FaultCode::CountMismatch, name.place)?;
+}
+
+// Whether a declaration has no type, or one that is known.
+fn is_known(c: &Checker, t: Option<TypeId>) -> bool {
+    match t {
+        Some(t) => c.has(t),
+        None => true,
     }
-    Ok(false)
+}
+
+// F84 of a constant declaration with another number of values than of names, where all is typed.
+fn consts_differ(
+    c: &mut Checker,
+    names: &Vec<Name>,
+    from: Option<&ValueSpec>,
+    iota: usize,
+) -> Result<(), NoMemory> {
+    let typed = match from {
+        Some(from) => is_spec_typed(c, from, Some(iota))?,
+        None => true,
+    };
+    counts_differ(c, names, typed)
 }
 
 fn const_spec(
@@ -73,19 +93,21 @@ fn const_spec(
     from: Option<&ValueSpec>,
     iota: usize,
 ) -> Result<(), NoMemory> {
-    let count = match from {
-        Some(from) => from.values.len(),
-        None => 0,
+    let each = match from {
+        Some(from) => from.values.len() == spec.names.len(),
+        None => spec.names.is_empty(),
     };
-    counts_match(c, spec, count)?;
+    if !each {
+        consts_differ(c, &spec.names, from, iota)?;
+    }
     let mut values: Vec<Entity> = Vec::new(c.alloc);
     for number in 0..spec.names.len() {
         let entity = match from {
-            Some(from) => match from.values.get(number) {
+            Some(from) if each => match from.values.get(number) {
                 Some(e) => const_entity(c, from.ty.as_ref(), e, iota)?,
                 None => Entity::Unknown,
             },
-            None => Entity::Unknown,
+            _ => Entity::Unknown,
         };
         values.push(entity)?;
     }
@@ -158,34 +180,24 @@ fn forget(c: &mut Checker, name: &Name) -> Result<(), NoMemory> {
     Ok(())
 }
 
-// The values of a variable declaration: none where it gives none.
-fn spec_values(c: &mut Checker, spec: &ValueSpec) -> Result<Option<Sides>, NoMemory> {
-    if spec.values.is_empty() {
-        return Ok(None);
-    }
-    match right_sides(c, &spec.values, spec.names.len())? {
-        Some(sides) => Ok(Some(sides)),
-        None => {
-            if let Some(name) = spec.names.first() {
-                c.fault(FaultCode::CountMismatch, name.place)?;
-            }
-            Ok(Some(Sides {
-                values: Vec::new(c.alloc),
-                results: None,
-            }))
-        }
-    }
-}
-
 fn var_spec(c: &mut Checker, spec: &ValueSpec) -> Result<StmtId, NoMemory> {
     let t = match &spec.ty {
         Some(e) => Some(type_expr(c, e, true)?),
         None => None,
     };
-    match spec_values(c, spec)? {
-        Some(sides) => with_values(c, spec, t, &sides),
-        None => without_values(c, spec, t.unwrap_or(NONE)),
+    if spec.values.is_empty() {
+        return without_values(c, spec, t.unwrap_or(NONE));
     }
+    let values = exprs(c, &spec.values)?;
+    let typed = are_typed(&values);
+    let Some(sides) = one_each(c, values, spec.names.len())? else {
+        counts_differ(c, &spec.names, typed && is_known(c, t))?;
+        return without_values(c, spec, NONE);
+    };
+    if !typed && spec.names.len() != spec.values.len() {
+        return without_values(c, spec, NONE);
+    }
+    with_values(c, spec, t, &sides)
 }
 
 // The names, each a fresh variable.

@@ -1,6 +1,6 @@
 //! `for` with a range clause. Go, "For statements".
 
-use crate::assign::{is_blank, left_side, new_variable, variable_side};
+use crate::assign::{is_blank, left_side, new_variable, no_name, variable_side};
 use crate::hold::{
     both, declare, declare_with, nothing, read_var, sequence, store, store_one, store_vars,
 };
@@ -185,8 +185,7 @@ fn define_one(c: &mut Checker, e: &Expr, t: TypeId) -> Result<Option<VarRef>, No
             Ok(Some(new_variable(c, name, e.place, t)?))
         }
         _ => {
-            expr(c, e)?;
-            c.fault(FaultCode::BadDefine, e.place)?;
+            no_name(c, e)?;
             Ok(None)
         }
     }

@@ -1,9 +1,10 @@
 //! Sends and selects. Go, "Send statements", "Select statements".
 
-use crate::assign::{left_side, new_variable};
+use crate::assign::{left_side, new_variable, no_name};
 use crate::hold::{both, nothing, store};
-use crate::sides::{Left, assigned, targets_of};
+use crate::sides::{Left, assigned, exprs, miscounted, targets_of};
 use gj_base::{NoMemory, Place};
+use go_check_call::calls::are_typed;
 use go_check_expr::expr::expr;
 use go_check_operand::assignment::{assignment, single_value};
 use go_check_state::node::{Node, PlaceNode, StmtId, StmtNode, VarRef};
@@ -19,16 +20,18 @@ pub fn send(
     left: &Vec<Expr>,
     right: &Expr,
 ) -> Result<StmtId, NoMemory> {
-    if left.len() != 1 {
-        c.fault(FaultCode::CountMismatch, place)?;
-    }
-    let Some(e) = left.first() else {
-        return nothing(c);
-    };
-    let x = expr(c, e)?;
+    let xs = exprs(c, left)?;
     let y = expr(c, right)?;
+    let typed = are_typed(&xs) && !y.is_unknown();
+    let x = match xs.first().copied() {
+        Some(x) if xs.len() == 1 => x,
+        _ => return miscounted(c, place, typed),
+    };
+    if !typed {
+        return nothing(c);
+    }
     let x = single_value(c, x)?;
-    if x.is_unknown() || y.is_unknown() {
+    if x.is_unknown() {
         return nothing(c);
     }
     match c.shape(x.ty) {
@@ -63,22 +66,28 @@ pub struct Select {
     label: u32,
     cases: Vec<u32>,
     default: Option<StmtId>,
+    /// The place of one with too many cases, and what was told before it.
+    too_many: Option<Place>,
+    told: (usize, usize),
 }
 
-/// `select {`: F76 past the limit of cases.
+/// `select {`.
 pub fn begin_select(
     c: &mut Checker,
     place: Place,
     label: u32,
     comms: &Vec<Comm>,
 ) -> Result<Select, NoMemory> {
-    if comms.len() > 1000 {
-        c.fault(FaultCode::TooManyParts, place)?;
-    }
     Ok(Select {
         label,
         cases: Vec::new(c.alloc),
         default: None,
+        too_many: if comms.len() > 1000 {
+            Some(place)
+        } else {
+            None
+        },
+        told: c.told(),
     })
 }
 
@@ -110,8 +119,12 @@ pub fn end_comm(
     Ok(())
 }
 
-/// The whole select.
+/// The whole select: F76 past the limit of cases, where all its parts are typed.
 pub fn end_select(c: &mut Checker, g: Select) -> Result<StmtId, NoMemory> {
+    match g.too_many {
+        Some(place) if c.told() == g.told => c.fault(FaultCode::TooManyParts, place)?,
+        _ => {}
+    }
     let cases = c.nodes.list(g.cases.as_slice())?;
     c.nodes.stmt(StmtNode::SelectStep {
         label: g.label,
@@ -294,7 +307,7 @@ fn define_received(
             vars.push(var.0)?;
         }
     }
-    if !fresh {
+    if !fresh && !x.is_unknown() {
         c.fault(FaultCode::BadDefine, place)?;
     }
     let row = received(c, x, &vars)?;
@@ -306,8 +319,7 @@ fn left_name(c: &mut Checker, e: &Expr) -> Result<NameId, NoMemory> {
     match &*e.form {
         ExprForm::Name(text) => c.names.intern(text.as_bytes()),
         _ => {
-            expr(c, e)?;
-            c.fault(FaultCode::BadDefine, e.place)?;
+            no_name(c, e)?;
             Ok(EMPTY)
         }
     }

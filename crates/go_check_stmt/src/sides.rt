@@ -1,13 +1,13 @@
 //! The values of right sides, and the left sides that they go to. Go, "Assignments".
 
-use crate::hold::{declare_results, hold_target, sequence, store};
+use crate::hold::{declare_results, hold_target, nothing, sequence, store};
 use gj_base::{NoMemory, Place};
-use go_check_call::calls::{Results, results_of};
+use go_check_call::calls::{Results, are_typed, results_of};
 use go_check_expr::expr::expr;
 use go_check_operand::assignment::{assignment, default_value};
 use go_check_primary::index_row::with_ok;
 use go_check_state::node::{Node, PlaceNode, StmtId, StmtNode, Target};
-use go_check_state::{Checker, EMPTY, Mode, Operand, Shape};
+use go_check_state::{Checker, EMPTY, FaultCode, Mode, Operand, Shape};
 use go_syntax::tree::Expr;
 use go_type::predeclared::{BOOL, untyped_id};
 use go_type::types::{Basis, TypeId};
@@ -36,18 +36,22 @@ pub fn exprs(c: &mut Checker, list: &Vec<Expr>) -> Result<Vec<Operand>, NoMemory
     Ok(out)
 }
 
-/// The values of the right sides, as many as are wanted: the results of one call, or a value with its
-/// second result. None where the counts differ.
-pub fn right_sides(
-    c: &mut Checker,
-    list: &Vec<Expr>,
-    count: usize,
-) -> Result<Option<Sides>, NoMemory> {
+/// Several expressions where one is due: F84, where they are typed.
+pub fn several(c: &mut Checker, place: Place, list: &Vec<Expr>) -> Result<StmtId, NoMemory> {
     let values = exprs(c, list)?;
-    one_each(c, values, count)
+    miscounted(c, place, are_typed(&values))
 }
 
-/// The same of operands.
+/// Left and right sides whose counts differ: F84, where they are typed.
+pub fn miscounted(c: &mut Checker, place: Place, typed: bool) -> Result<StmtId, NoMemory> {
+    if typed {
+        c.fault(FaultCode::CountMismatch, place)?;
+    }
+    nothing(c)
+}
+
+/// The values of right sides, as many as are wanted: the results of one call, or a value with its second
+/// result. None where the counts differ.
 pub fn one_each(
     c: &mut Checker,
     values: Vec<Operand>,

@@ -4,6 +4,7 @@
 use crate::callee::{Called, what_is_called};
 use crate::hold::{declare_all, node_type, nothing, read_var, sequence, set_body};
 use crate::select::is_receive;
+use crate::sides::several;
 use gj_base::{NoMemory, Place};
 use go_check_expr::expr::expr;
 use go_check_state::node::{Callee, FuncRef, Node, NodeId, Span, StmtId, StmtNode};
@@ -43,20 +44,21 @@ fn is_statement(c: &mut Checker, e: &Expr) -> Result<bool, NoMemory> {
 
 /// An expression as a statement: F93 at all but a call that may stand so, and a receive.
 pub fn expr_stmt(c: &mut Checker, place: Place, list: &Vec<Expr>) -> Result<StmtId, NoMemory> {
-    let mut good = list.len() == 1;
-    let mut last = None;
-    for e in list {
-        good &= is_statement(c, e)?;
-        last = Some(expr(c, e)?);
-    }
-    let Some(x) = last else { return nothing(c) };
-    if !good {
-        if !x.is_unknown() || list.len() > 1 {
-            c.fault(FaultCode::UnusedExpression, place)?;
-        }
+    let Some(e) = list.first() else {
         return nothing(c);
+    };
+    if list.len() != 1 {
+        return several(c, place, list);
     }
-    performed(c, x)
+    let good = is_statement(c, e)?;
+    let x = expr(c, e)?;
+    if good {
+        return performed(c, x);
+    }
+    if !x.is_unknown() {
+        c.fault(FaultCode::UnusedExpression, place)?;
+    }
+    nothing(c)
 }
 
 // How many values an operand gives.

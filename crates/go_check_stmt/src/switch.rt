@@ -34,6 +34,9 @@ pub struct Switch {
     symbol: Option<(NameId, Place)>,
     /// The symbol's objects, one for each clause.
     objects: Vec<u32>,
+    /// The place of one with too many cases, and what was told before it.
+    too_many: Option<Place>,
+    told: (usize, usize),
 }
 
 fn begin(c: &Checker, x: Operand, bare: bool, parts: Vec<u32>) -> Switch {
@@ -50,11 +53,13 @@ fn begin(c: &Checker, x: Operand, bare: bool, parts: Vec<u32>) -> Switch {
         nil: false,
         symbol: None,
         objects: Vec::new(c.alloc),
+        too_many: None,
+        told: c.told(),
     }
 }
 
-// F92 at a second default; F76 past the limit of cases.
-fn count_clauses(c: &mut Checker, place: Place, clauses: &Vec<Clause>) -> Result<(), NoMemory> {
+// F92 at a second default. Answers whether there are more cases than may be.
+fn count_clauses(c: &mut Checker, clauses: &Vec<Clause>) -> Result<bool, NoMemory> {
     let mut seen = false;
     let mut cases = 0usize;
     for clause in clauses {
@@ -66,10 +71,7 @@ fn count_clauses(c: &mut Checker, place: Place, clauses: &Vec<Clause>) -> Result
         }
         cases = cases.saturating_add(clause.exprs.len());
     }
-    if cases > MOST_CASES || clauses.len() > MOST_CASES {
-        c.fault(FaultCode::TooManyParts, place)?;
-    }
-    Ok(())
+    Ok(cases > MOST_CASES || clauses.len() > MOST_CASES)
 }
 
 // An operand that is evaluated once.
@@ -95,6 +97,7 @@ pub fn begin_switch(
     tag: &Option<Expr>,
     clauses: &Vec<Clause>,
 ) -> Result<Switch, NoMemory> {
+    let told = c.told();
     let mut parts: Vec<u32> = Vec::new(c.alloc);
     parts.push(init.0)?;
     let x = match tag {
@@ -105,8 +108,11 @@ pub fn begin_switch(
         }
         None => missing_tag(c, place)?,
     };
-    count_clauses(c, place, clauses)?;
-    Ok(begin(c, x, tag.is_none(), parts))
+    let many = count_clauses(c, clauses)?;
+    let mut g = begin(c, x, tag.is_none(), parts);
+    g.too_many = if many { Some(place) } else { None };
+    g.told = told;
+    Ok(g)
 }
 
 // A tag that is missing is `true`.
@@ -238,8 +244,13 @@ pub fn end_clause(g: &mut Switch, body: StmtId, falls: bool) -> Result<(), NoMem
     Ok(())
 }
 
-/// The whole switch. Of a symbol are told the objects, for it is unused where none of them is used.
+/// The whole switch: F76 past the limit of cases, where all its parts are typed. Of a symbol are told the
+/// objects, for it is unused where none of them is used.
 pub fn end_switch(c: &mut Checker, g: Switch) -> Result<StmtId, NoMemory> {
+    match g.too_many {
+        Some(place) if c.told() == g.told => c.fault(FaultCode::TooManyParts, place)?,
+        _ => {}
+    }
     if let Some((name, place)) = g.symbol {
         let objects = c.nodes.list(g.objects.as_slice())?;
         c.symbols.push(SymbolRow {
@@ -270,6 +281,7 @@ pub fn begin_type_switch(
     of: &Expr,
     clauses: &Vec<Clause>,
 ) -> Result<Switch, NoMemory> {
+    let told = c.told();
     let mut parts: Vec<u32> = Vec::new(c.alloc);
     parts.push(init.0)?;
     let x = expr(c, of)?;
@@ -279,10 +291,12 @@ pub fn begin_type_switch(
     } else {
         once(c, &mut parts, x)?
     };
-    count_clauses(c, place, clauses)?;
+    let many = count_clauses(c, clauses)?;
     let symbol = symbol_name(c, name)?;
     let mut g = begin(c, x, false, parts);
     g.symbol = symbol;
+    g.too_many = if many { Some(place) } else { None };
+    g.told = told;
     Ok(g)
 }
 

@@ -170,11 +170,11 @@ pub fn interface_type(
             out.known &= merge(c, &mut out.specs, at, t)?;
         }
     }
-    if out.specs.len() > MOST_PARTS {
-        c.fault(FaultCode::TooManyParts, place)?;
+    if !out.known {
         return Ok(NONE);
     }
-    if !out.known {
+    if out.specs.len() > MOST_PARTS {
+        c.fault(FaultCode::TooManyParts, place)?;
         return Ok(NONE);
     }
     c.interface_of(out.specs)

@@ -3,19 +3,32 @@
 use gj_base::{NoMemory, Place, Text};
 use go_check_state::{BLANK, Checker, FaultCode, NameId};
 use go_syntax::tree::{ExprForm, Params};
+use go_type::types::TypeId;
 
-/// F82 at a parameter with the name of an earlier one.
-pub fn distinct(c: &mut Checker, names: &mut Vec<NameId>, list: &Params) -> Result<(), NoMemory> {
+/// F82 at a parameter with the name of an earlier one. Answers whether there is none.
+pub fn distinct(c: &mut Checker, names: &mut Vec<NameId>, list: &Params) -> Result<bool, NoMemory> {
+    let mut good = true;
     for number in 0..list.items.len() {
         if let Some((at, text)) = param_name(list, number) {
             let id = c.names.intern(text.as_bytes())?;
             if id != BLANK && names.iter().any(|other| *other == id) {
                 c.fault_of(FaultCode::Redeclared, at, id)?;
+                good = false;
             }
             names.push(id)?;
         }
     }
-    Ok(())
+    Ok(good)
+}
+
+/// F53 at a list whose types are all typed.
+pub fn bad_list(c: &mut Checker, place: Place, types: &Vec<TypeId>) -> Result<(), NoMemory> {
+    for t in types.iter() {
+        if !c.has(*t) {
+            return Ok(());
+        }
+    }
+    c.fault(FaultCode::BadParameters, place)
 }
 
 /// Whether a parameter list has names.

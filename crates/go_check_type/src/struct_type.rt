@@ -142,11 +142,11 @@ fn is_embeddable(c: &mut Checker, embedded: Embedded) -> Result<bool, NoMemory> 
 
 /// The struct type of fields. Go, "Struct types".
 pub fn struct_type(c: &mut Checker, place: Place, out: StructRows) -> Result<TypeId, NoMemory> {
-    if out.rows.len() > MOST_PARTS {
-        c.fault(FaultCode::TooManyParts, place)?;
+    if !out.known {
         return Ok(NONE);
     }
-    if !out.known {
+    if out.rows.len() > MOST_PARTS {
+        c.fault(FaultCode::TooManyParts, place)?;
         return Ok(NONE);
     }
     let t = c.struct_of(out.rows)?;
