@@ -182,7 +182,7 @@ fn wrapper(
     package: NameId,
     sig: TypeId,
 ) -> Result<u32, NoMemory> {
-    if package != EMPTY {
+    if !c.is_exported(name) {
         enter(c, package);
     }
     let func = c.add_func(FuncRow {

@@ -1,7 +1,8 @@
 //! Maps. Go specification, "Map types", "Deletion of map elements", "For statements with range clause".
 //!
-//! A map is an array of its first entry, its last one, their count, and the entries by the texts of their
-//! keys. An entry is an array of its key, its value, the next one, the one before, and whether it is there.
+//! A map is an array of its first entry, its last one, their count, the entries by the texts of their keys, and
+//! the one that was found or made last, or null: `m[k] += x` makes the text of its key once. An entry is an array
+//! of its key, its value, the next one, the one before, and whether it is there.
 //! An entry that is gone keeps its neighbours, so that a range that stands at it finds on.
 
 /// Functions and variables, in order.
@@ -9,7 +10,7 @@ pub const MAPS: [&'static str; 6] = [
     // An empty map.
     "
 function $map(){
- return [null,null,0,Object.create(null)];
+ return [null,null,0,Object.create(null),null];
 }",
     // The text of a key, which begins with `$`: parts of structs and arrays have their lengths before.
     "
@@ -42,11 +43,21 @@ function $key($k,$d){
     "
 function $mget($m,$k,$d){
  var $t=\"\";
+ var $e=$m;
  if($m===null){
   return null;
  }
+ $e=$m[4];
+ if($e!==null&&$e[0]===$k){
+  return $e;
+ }
  $t=$key($k,$d);
- return $t in $m[3]?$m[3][$t]:null;
+ if(!($t in $m[3])){
+  return null;
+ }
+ $e=$m[3][$t];
+ $m[4]=$e;
+ return $e;
 }",
     // Sets the value of a key; a new entry is the last one.
     "
@@ -55,6 +66,11 @@ function $mset($m,$k,$v,$d){
  var $e=$m;
  if($m===null){
   $panic($p12);
+ }
+ $e=$m[4];
+ if($e!==null&&$e[0]===$k){
+  $e[1]=$v;
+  return;
  }
  $t=$key($k,$d);
  if($t in $m[3]){
@@ -73,6 +89,7 @@ function $mset($m,$k,$v,$d){
  $m[1]=$e;
  $m[2]=$m[2]+1;
  $m[3][$t]=$e;
+ $m[4]=$e;
 }",
     // Takes an entry away, where there is one.
     "
@@ -88,6 +105,7 @@ function $mdel($m,$k,$d){
  }
  $e=$m[3][$t];
  delete $m[3][$t];
+ $m[4]=null;
  $e[4]=false;
  $m[2]=$m[2]-1;
  if($e[3]===null){
