@@ -1,4 +1,0 @@
-pub mod FoundLemmas
-pub mod AssignLemmas
-pub mod CountLemmas
-pub mod PlaceLemmas

@@ -1,3 +1,0 @@
-pub mod Lists
-pub mod BindLemmas
-pub mod ResultLemmas

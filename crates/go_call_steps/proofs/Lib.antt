@@ -1,2 +1,0 @@
-pub mod EnterLemmas
-pub mod StepLemmas

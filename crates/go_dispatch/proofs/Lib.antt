@@ -1,3 +1,0 @@
-pub mod PlaysLemmas
-pub mod RecoverLemmas
-pub mod TaskLemmas

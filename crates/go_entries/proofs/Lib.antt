@@ -1,4 +1,0 @@
-pub mod ScalarLemmas
-pub mod CallLemmas
-pub mod ReceiverLemmas
-pub mod EnterLemmas

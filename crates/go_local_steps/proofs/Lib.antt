@@ -1,3 +1,0 @@
-pub mod IndexLemmas
-pub mod ScalarLemmas
-pub mod StepLemmas

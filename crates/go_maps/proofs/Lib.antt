@@ -1,4 +1,0 @@
-pub mod FoundLemmas
-pub mod ListLemmas
-pub mod MapLemmas
-pub mod PutLemmas

@@ -1,4 +1,0 @@
-//! Steps on maps, in code.
-#![tactic(auto)]
-
-pub mod maps;

@@ -1,4 +1,0 @@
-pub mod Loops
-pub mod Only
-pub mod ScalarLemmas
-pub mod Steps

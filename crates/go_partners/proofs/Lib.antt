@@ -1,4 +1,0 @@
-pub mod Only
-pub mod WaitLemmas
-pub mod ReadyLemmas
-pub mod GateLemmas

@@ -1,3 +1,0 @@
-pub mod Talks
-pub mod Ways
-pub mod Chosen

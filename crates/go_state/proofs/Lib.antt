@@ -1,5 +1,0 @@
-pub mod StackLemmas
-pub mod TodoLemmas
-pub mod PassedLemmas
-pub mod BranchLemmas
-pub mod MovedLemmas

@@ -1,3 +1,0 @@
-pub mod TalkLemmas
-pub mod CloseLemmas
-pub mod SelectLemmas

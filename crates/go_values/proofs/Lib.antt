@@ -1,4 +1,0 @@
-pub mod LevelLemmas
-pub mod MemoryLemmas
-pub mod SameTypes
-pub mod TextLemmas

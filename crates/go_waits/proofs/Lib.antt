@@ -1,2 +1,0 @@
-pub mod GateLemmas
-pub mod WaitLemmas
