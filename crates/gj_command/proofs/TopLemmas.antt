@@ -18,7 +18,7 @@ use Rattle.go_load.specs.declared.sources.FileEntry.{FileEntry}
 use Rattle.go_syntax.specs.Tree as t
 use Rattle.go_core.specs.CoreTree.{CoreProgram}
 use Rattle.go_items.specs.ItemView.{decls_of}
-use Rattle.go_packages.specs.Checked.{fault_of, least}
+use Rattle.go_typing.specs.Checked.{fault_of, least}
 use Rattle.js_tree.specs.Script.{ScriptTree}
 use Rattle.js_tree.specs.Printed.{plain}
 use Rattle.js_prints.specs.Faithful.{Faithful}

@@ -13,7 +13,7 @@ use Rattle.go_load.specs.declared.packages.LoadRefusal.{LoadRefusal}
 use Rattle.go_load.specs.declared.packages.LoadRefusal.TheVariants as load
 use Rattle.go_core.specs.CoreTree.{CoreProgram}
 use Rattle.go_syntax.specs.Tree as t
-use Rattle.go_packages.specs.Checked.{told}
+use Rattle.go_typing.specs.Checked.{told}
 use Rattle.go_core.specs.CoreView.{program_view}
 use Rattle.go_core.specs.declared.program.Program.{Program}
 use Rattle.go_type.specs.Table.{places}

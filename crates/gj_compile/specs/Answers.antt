@@ -13,7 +13,7 @@ use Rattle.go_core.specs.CoreTree.{CoreProgram}
 use Rattle.go_core.specs.CoreView.{program_view}
 use Rattle.go_type.specs.Tree.{Ty}
 use Rattle.go_typing.specs.Answer.{Flaw}
-use Rattle.go_packages.specs.Checked.{told, fault_of, program_of}
+use Rattle.go_typing.specs.Checked.{told, fault_of, program_of}
 use Rattle.go_stmt.specs.Checks.{fault_with}
 use Rattle.go_items.specs.ItemView.{decls_of}
 use Rattle.js_tree.specs.Script.{ScriptTree}

@@ -12,7 +12,7 @@ use Rattle.go_load.specs.declared.packages.LoadRefusal.{LoadRefusal}
 use Rattle.go_load.specs.declared.packages.LoadRefusal.TheVariants as load
 use Rattle.go_typing.specs.Answer.{Flaw}
 use Rattle.go_items.specs.ItemView.{decls_of}
-use Rattle.go_packages.specs.Checked.{told, fault_of, program_of}
+use Rattle.go_typing.specs.Checked.{told, fault_of, program_of}
 use Rattle.go_stmt.specs.Checks.{root_trees, fault_with}
 use Rattle.go_core.specs.CoreTree.{CoreProgram}
 use Rattle.go_core.specs.CoreView.{program_view}

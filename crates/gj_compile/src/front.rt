@@ -5,7 +5,7 @@
 //! profile go on.
 
 ghost use Rattle.std.specs.Prelude.{◌≡◌, [], ℕ, Err, IfOk, codes, drop, is_some, take, true};
-ghost use Rattle.go_packages.specs.Checked.{told};
+ghost use Rattle.go_typing.specs.Checked.{told};
 ghost use Rattle.go_stmt.specs.Checks.{Checks, IsProgramOf};
 ghost use Rattle.gj_compile.specs.Answers.{Fronts, NameImport, NamesImport};
 ghost use Rattle.gj_compile.specs.Fronts.{decls_in, main_of, FrontsPackages, FrontsUnloaded};

@@ -11,14 +11,14 @@ use Rattle.go_core.specs.declared.node.CoreExpr.{CoreExpr}
 use Rattle.go_core.specs.declared.statement.CoreStmt.{CoreStmt}
 use Rattle.go_core.specs.declared.statement.Target as target
 use Rattle.go_typing.specs.Answer.{Flaw, flaw}
-use Rattle.go_answers.specs.AnswerView.{flaw_view}
-use Rattle.go_answers.specs.declared.answer.Flaw as code
+use Rattle.go_operands.specs.AnswerView.{flaw_view}
+use Rattle.go_operands.specs.declared.answers.answer.Flaw as code
 use Rattle.go_walk.specs.WalkView.{Keeps}
-use Rattle.go_statements.specs.Expressions.{Valued, core_of}
-use Rattle.go_statements.specs.Assign.{Left, left_flaws, target_of, where_typed}
-use Rattle.go_typed.specs.Raw.{Raw}
-use Rattle.go_valued.specs.Settled.{all_known, all_told}
-use Rattle.go_valued.specs.Outcome.{Adds}
+use Rattle.go_typing.specs.Expressions.{Valued, core_of}
+use Rattle.go_typing.specs.Assign.{Left, left_flaws, target_of, where_typed}
+use Rattle.go_expr.specs.Raw.{Raw}
+use Rattle.go_assign.specs.Settled.{all_known, all_told}
+use Rattle.go_assign.specs.Outcome.{Adds}
 use Rattle.go_assign.specs.LeftView.{fitted}
 use Rattle.go_assign.specs.Assigning.{paired, pair_targets, pair_values, pair_flaws, Stores, all_flaws, all_left, each_gives, not_as_many}
 

@@ -3,8 +3,8 @@ use Rattle.std.proofs.Common.{◌≡◌, ℕ, ◌∙◌, refl, ap, List, Option,
 use Rattle.std.specs.Prelude.{if◌then◌else◌}
 use Rattle.go_syntax.specs.Tree.{Expr, NameExpr, IntExpr, RuneExpr, StrExpr, ParenExpr, UnaryExpr, BinaryExpr, SelectExpr, IndexExpr, SliceExpr, AssertExpr, CallExpr, LiteralExpr, FuncExpr, ArrayType, SliceType, StructType, FuncType, InterfaceType, MapType, ChanType}
 use Rattle.go_typing.specs.Env.{lookup, is_blank}
-use Rattle.go_statements.specs.Walk.{Walk}
-use Rattle.go_statements.specs.Assign.{Left, left_blank, left_declared, left_of, is_name}
+use Rattle.go_typing.specs.Walk.{Walk}
+use Rattle.go_typing.specs.Assign.{Left, left_blank, left_declared, left_of, is_name}
 use Rattle.go_assign.specs.LeftView.{bare, bare_name}
 
 -- ---- names

@@ -15,16 +15,16 @@ use Rattle.go_core.specs.CoreView.{target_view}
 use Rattle.go_core.specs.declared.statement.Target as target
 use Rattle.go_type.specs.declared.types.TypeId.{TypeId}
 use Rattle.go_typing.specs.Env.{Bind, Decl, variable, global, constant, type_name, function, imported, built_in, nil_value, refused, unknown, lookup}
-use Rattle.go_scopes.specs.declared.env.Env.{Env}
-use Rattle.go_scopes.specs.EnvView.{table_of}
-use Rattle.go_statements.specs.Walk.{Walk}
-use Rattle.go_statements.specs.Assign.{Left, left_place, left_declared, left_of, is_left}
-use Rattle.go_typed.specs.Raw.{Grows}
+use Rattle.go_operands.specs.declared.scopes.env.Env.{Env}
+use Rattle.go_operands.specs.EnvView.{table_of}
+use Rattle.go_typing.specs.Walk.{Walk}
+use Rattle.go_typing.specs.Assign.{Left, left_place, left_declared, left_of, is_left}
+use Rattle.go_expr.specs.Raw.{Grows}
 use Rattle.go_walk.specs.WalkView.{walk_outside, Keeps}
-use Rattle.go_effects.proofs.WalkLemmas.{names_grown, scopes_grown}
-use Rattle.go_callee.specs.Words.{types_of, names_of, scopes_of}
-use Rattle.go_assign.specs.declared.left.Left as code
-use Rattle.go_assign.specs.declared.left.Left.TheVariants as left
+use Rattle.go_assign.proofs.WalkLemmas.{names_grown, scopes_grown}
+use Rattle.go_calls.specs.Words.{types_of, names_of, scopes_of}
+use Rattle.go_assign.specs.declared.assign.left.Left as code
+use Rattle.go_assign.specs.declared.assign.left.Left.TheVariants as left
 use Rattle.go_assign.specs.LeftView.{left_view, lefts_after, lefts_of, LeftBelow, spot_of}
 use Rattle.go_assign.specs.Assigning.{all_left}
 use Rattle.std.specs.List.{AllByRecursion}

@@ -13,14 +13,14 @@ use Rattle.go_core.specs.CoreView.{stmt_view, target_view}
 use Rattle.go_core.specs.declared.statement.CoreStmt.{CoreStmt}
 use Rattle.go_core.specs.declared.statement.Target as target
 use Rattle.go_typing.specs.Answer.{Flaw, flaw}
-use Rattle.go_answers.specs.AnswerView.{flaw_view}
-use Rattle.go_answers.specs.declared.answer.Flaw as code
+use Rattle.go_operands.specs.AnswerView.{flaw_view}
+use Rattle.go_operands.specs.declared.answers.answer.Flaw as code
 use Rattle.go_walk.specs.WalkView.{Keeps}
-use Rattle.go_statements.specs.Expressions.{core_of}
-use Rattle.go_statements.specs.Assign.{Left, left_flaws, target_of, takes}
-use Rattle.go_typed.specs.Raw.{Raw}
-use Rattle.go_valued.specs.Outcome.{Adds}
-use Rattle.go_assign.specs.declared.left.Left as left
+use Rattle.go_typing.specs.Expressions.{core_of}
+use Rattle.go_typing.specs.Assign.{Left, left_flaws, target_of, takes}
+use Rattle.go_expr.specs.Raw.{Raw}
+use Rattle.go_assign.specs.Outcome.{Adds}
+use Rattle.go_assign.specs.declared.assign.left.Left as left
 use Rattle.go_assign.specs.LeftView.{lefts_after}
 use Rattle.go_assign.specs.Assigning.{all_flaws, all_targets, each_takes, call_gives}
 

@@ -14,13 +14,13 @@ use Rattle.go_core.specs.CoreView.{exprs_of}
 use Rattle.go_typing.specs.Env.{Bind, Decl, variable, global, constant, type_name, function, imported, built_in, nil_value, refused, unknown, lookup, is_blank}
 use Rattle.go_typing.specs.Answer.{Flaw, flaw}
 use Rattle.go_typing.specs.Typing.{place_of}
-use Rattle.go_statements.specs.Walk.{Walk, Did}
-use Rattle.go_statements.specs.Expressions.{Valued, answer_in, several_types, core_of}
-use Rattle.go_statements.specs.Assign.{Left, left_blank, left_place, left_wrong, left_flaws, left_declared, left_of, is_left, value_for, target_of, takes, Assigned, one_more, assigned_each, count_of, all_take, same_number, lefts_typed, lefts_flaws, targets_of, all_typed, where_typed, miscounted, assign_by, assign_did}
-use Rattle.go_typed.specs.Raw.{raw_of, raws_of}
-use Rattle.go_valued.specs.Settled.{all_known, all_told}
-use Rattle.go_effects.proofs.RawLemmas.{typed_all, told_all}
-use Rattle.go_effects.proofs.OutcomeLemmas.{made}
+use Rattle.go_typing.specs.Walk.{Walk, Did}
+use Rattle.go_typing.specs.Expressions.{Valued, answer_in, several_types, core_of}
+use Rattle.go_typing.specs.Assign.{Left, left_blank, left_place, left_wrong, left_flaws, left_declared, left_of, is_left, value_for, target_of, takes, Assigned, one_more, assigned_each, count_of, all_take, same_number, lefts_typed, lefts_flaws, targets_of, all_typed, where_typed, miscounted, assign_by, assign_did}
+use Rattle.go_expr.specs.Raw.{raw_of, raws_of}
+use Rattle.go_assign.specs.Settled.{all_known, all_told}
+use Rattle.go_assign.proofs.RawLemmas.{typed_all, told_all}
+use Rattle.go_assign.proofs.OutcomeLemmas.{made}
 use Rattle.go_assign.specs.LeftView.{lefts_of, fitted}
 use Rattle.go_assign.specs.Assigning.{paired, pair_targets, pair_values, pair_flaws, all_flaws, all_left, all_targets, each_takes, as_many, as_many_values, Gives, not_as_many, each_gives, call_gives, assigned_by, assigned}
 

@@ -15,24 +15,24 @@ use Rattle.go_type.specs.declared.table.TypeTable.{TypeTable}
 use Rattle.go_core.specs.CoreTree as core
 use Rattle.go_core.specs.CoreView.{stmt_view, var_of}
 use Rattle.go_core.specs.declared.statement.CoreStmt.{CoreStmt}
-use Rattle.go_answers.specs.AnswerView.{flaw_view}
-use Rattle.go_answers.specs.declared.answer.Flaw as code
-use Rattle.go_scopes.specs.declared.env.Env.{Env}
-use Rattle.go_scopes.specs.EnvView.{table_of}
-use Rattle.go_callee.specs.Words.{types_of, names_of, scopes_of}
-use Rattle.go_statements.specs.Walk as go
-use Rattle.go_statements.specs.Walk.{Did, uses_all}
-use Rattle.go_statements.specs.Assign.{Left, left_uses, assign, assign_did}
+use Rattle.go_operands.specs.AnswerView.{flaw_view}
+use Rattle.go_operands.specs.declared.answers.answer.Flaw as code
+use Rattle.go_operands.specs.declared.scopes.env.Env.{Env}
+use Rattle.go_operands.specs.EnvView.{table_of}
+use Rattle.go_calls.specs.Words.{types_of, names_of, scopes_of}
+use Rattle.go_typing.specs.Walk as go
+use Rattle.go_typing.specs.Walk.{Did, uses_all}
+use Rattle.go_typing.specs.Assign.{Left, left_uses, assign, assign_did}
 use Rattle.go_walk.specs.WalkView.{walk_of, walk_outside}
-use Rattle.go_walk.specs.declared.walk.Walk.{Walk}
-use Rattle.go_typed.specs.declared.raw.Raw as raw
-use Rattle.go_typed.specs.Raw.{Raw, raw_view, raws_of, raws_after}
-use Rattle.go_valued.specs.Outcome.{Does, Adds}
-use Rattle.go_valued.specs.Settled.{several_in}
-use Rattle.go_effects.specs.Moves.{Moves, Stays}
-use Rattle.go_effects.proofs.WalkLemmas.{names_grown, raws_grown, moves_stays, moves_on}
-use Rattle.go_effects.proofs.OutcomeLemmas.{does_made}
-use Rattle.go_assign.specs.declared.left.Left as left
+use Rattle.go_walk.specs.declared.walk.walk.Walk.{Walk}
+use Rattle.go_expr.specs.declared.typed.raw.Raw as raw
+use Rattle.go_expr.specs.Raw.{Raw, raw_view, raws_of, raws_after}
+use Rattle.go_assign.specs.Outcome.{Does, Adds}
+use Rattle.go_assign.specs.Settled.{several_in}
+use Rattle.go_assign.specs.Moves.{Moves, Stays}
+use Rattle.go_assign.proofs.WalkLemmas.{names_grown, raws_grown, moves_stays, moves_on}
+use Rattle.go_assign.proofs.OutcomeLemmas.{does_made}
+use Rattle.go_assign.specs.declared.assign.left.Left as left
 use Rattle.go_assign.specs.LeftView.{left_view, lefts_after, lefts_of, LeftBelow}
 use Rattle.go_assign.specs.Assigning.{paired, as_many, as_many_values, Gives, not_as_many, each_gives, call_gives, assigned_by, assigned}
 use Rattle.go_assign.proofs.LeftLemmas.{lefts_kept, lefts_below}

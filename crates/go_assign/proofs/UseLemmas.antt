@@ -6,8 +6,8 @@ use Rattle.go_syntax.specs.Tree as t
 use Rattle.go_syntax.specs.View.{expr_view, exprs_of}
 use Rattle.go_syntax.specs.declared.tree.Expr.{Expr}
 use Rattle.go_typing.specs.Uses.{names_in}
-use Rattle.go_statements.specs.Walk.{Walk, with_lost, uses}
-use Rattle.go_statements.specs.Assign.{is_name, left_use, left_uses}
+use Rattle.go_typing.specs.Walk.{Walk, with_lost, uses}
+use Rattle.go_typing.specs.Assign.{is_name, left_use, left_uses}
 
 abbrev by : t.Expr → Walk → Bool → Walk
 by e w b = if b then with_lost (names_in e) w else uses e w

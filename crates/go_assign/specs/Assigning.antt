@@ -10,13 +10,13 @@ use Rattle.go_core.specs.declared.node.CoreExpr.{CoreExpr}
 use Rattle.go_core.specs.declared.statement.Target as code_target
 use Rattle.gj_base.specs.declared.place.Place.{Place}
 use Rattle.go_typing.specs.Answer.{Flaw, flaw}
-use Rattle.go_answers.specs.AnswerView.{flaw_view}
-use Rattle.go_answers.specs.declared.answer.Flaw as code
+use Rattle.go_operands.specs.AnswerView.{flaw_view}
+use Rattle.go_operands.specs.declared.answers.answer.Flaw as code
 use Rattle.go_walk.specs.WalkView.{Keeps}
-use Rattle.go_statements.specs.Expressions.{Valued, core_of}
-use Rattle.go_statements.specs.Assign.{Left, left_flaws, is_left, target_of, takes, where_typed}
-use Rattle.go_typed.specs.Raw.{Raw}
-use Rattle.go_valued.specs.Settled.{all_known, all_told, several_in}
+use Rattle.go_typing.specs.Expressions.{Valued, core_of}
+use Rattle.go_typing.specs.Assign.{Left, left_flaws, is_left, target_of, takes, where_typed}
+use Rattle.go_expr.specs.Raw.{Raw}
+use Rattle.go_assign.specs.Settled.{all_known, all_told, several_in}
 use Rattle.go_assign.specs.LeftView.{fitted}
 
 -- each left side with its value

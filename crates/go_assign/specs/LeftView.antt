@@ -8,15 +8,15 @@ use Rattle.go_type.specs.Named.{NamedTy}
 use Rattle.go_core.specs.CoreTree as core
 use Rattle.go_typing.specs.Env.{Decl, variable, global}
 use Rattle.go_typing.specs.Answer.{flaw, is_known}
-use Rattle.go_answers.specs.AnswerView.{flaw_view}
-use Rattle.go_statements.specs.Walk.{Walk}
-use Rattle.go_statements.specs.Expressions.{Valued}
-use Rattle.go_statements.specs.Assign.{Left, left_blank, left_place, left_wrong, left_of}
-use Rattle.go_typed.specs.Raw.{Raw}
-use Rattle.go_valued.specs.Settled.{at_type, alone}
-use Rattle.go_assign.specs.declared.left.Left as code
-use Rattle.go_assign.specs.declared.left.Left.TheVariants as left
-use Rattle.go_assign.specs.declared.left.Lefts.{Lefts}
+use Rattle.go_operands.specs.AnswerView.{flaw_view}
+use Rattle.go_typing.specs.Walk.{Walk}
+use Rattle.go_typing.specs.Expressions.{Valued}
+use Rattle.go_typing.specs.Assign.{Left, left_blank, left_place, left_wrong, left_of}
+use Rattle.go_expr.specs.Raw.{Raw}
+use Rattle.go_assign.specs.Settled.{at_type, alone}
+use Rattle.go_assign.specs.declared.assign.left.Left as code
+use Rattle.go_assign.specs.declared.assign.left.Left.TheVariants as left
+use Rattle.go_assign.specs.declared.assign.left.Lefts.{Lefts}
 
 abbrev pub left_view : List Ty → code.Left → Left
 left_view ts left.Blank = left_blank

@@ -1,2 +1,11 @@
+pub mod Settled
+pub mod Taken
+pub mod Outcome
+pub mod Passed
+pub mod Leaving
+pub mod TagView
+pub mod Apart
+pub mod Moves
 pub mod LeftView
 pub mod Assigning
+pub mod SpecView

@@ -1,15 +1,12 @@
-//! Assignments, typed: `xs = ys`.
+//! Values where a statement wants them, branches, assignments, and the types and values of declared
+//! constants.
 //!
-//! Go, "Assignments". The definitions stand in go_statements (`specs/Assign.antt`);
-//! `specs/LeftView.antt` says what a left side in code stands for, and `specs/Assigning.antt` what comes
-//! of left sides and values.
+//! The Go Programming Language Specification (as of Go 1.17), "Assignments", "Constant declarations",
+//! "Expression statements".
 #![tactic(auto)]
 
-pub mod bare;
-pub mod each;
-pub mod left;
-pub mod several;
-pub mod top;
-pub mod uses;
-
-pub use top::assign;
+pub mod assign;
+pub mod branch;
+pub mod constants;
+pub mod effects;
+pub mod valued;

@@ -20,25 +20,25 @@ use Rattle.go_core.specs.Terminating.{is_terminating, ends_terminating}
 use Rattle.go_core.specs.declared.statement.CoreStmt.{CoreStmt}
 use Rattle.go_typing.specs.Answer as typing
 use Rattle.go_typing.specs.Answer.{flaw}
-use Rattle.go_scopes.specs.EnvView.{table_of}
-use Rattle.go_callee.specs.Words.{types_of}
-use Rattle.go_answers.specs.AnswerView.{flaw_view}
-use Rattle.go_answers.specs.declared.answer.Flaw.{Flaw}
-use Rattle.go_statements.specs.Walk as go
-use Rattle.go_statements.specs.Walk.{Did, body, unused}
-use Rattle.go_statements.specs.Labels.{labels_told}
-use Rattle.go_statements.specs.Statements as statements
-use Rattle.go_statements.specs.Statements.{stmts, clause_stmts, missing_return, where_clean, where_whole, whole_told, far_told, flaw_places, with_labels, function_body}
+use Rattle.go_operands.specs.EnvView.{table_of}
+use Rattle.go_calls.specs.Words.{types_of}
+use Rattle.go_operands.specs.AnswerView.{flaw_view}
+use Rattle.go_operands.specs.declared.answers.answer.Flaw.{Flaw}
+use Rattle.go_typing.specs.Walk as go
+use Rattle.go_typing.specs.Walk.{Did, body, unused}
+use Rattle.go_typing.specs.Labels.{labels_told}
+use Rattle.go_typing.specs.Statements as statements
+use Rattle.go_typing.specs.Statements.{stmts, clause_stmts, missing_return, where_clean, where_whole, whole_told, far_told, flaw_places, with_labels, function_body}
 use Rattle.go_walk.specs.WalkView.{walk_of, depth, Keeps}
-use Rattle.go_walk.specs.declared.parts.Before.{Before}
-use Rattle.go_walk.specs.declared.walk.Walk.{Walk}
-use Rattle.go_valued.specs.Outcome.{Does}
-use Rattle.go_simple.specs.AroundView.{around_of, results_of}
-use Rattle.go_simple.specs.declared.around.Around.{Around}
-use Rattle.go_leaf.specs.Whole.{missing, if_clean, rest_told}
+use Rattle.go_walk.specs.declared.walk.parts.Before.{Before}
+use Rattle.go_walk.specs.declared.walk.walk.Walk.{Walk}
+use Rattle.go_assign.specs.Outcome.{Does}
+use Rattle.go_define.specs.AroundView.{around_of, results_of}
+use Rattle.go_define.specs.declared.simple.around.Around.{Around}
+use Rattle.go_body.specs.Whole.{missing, if_clean, rest_told}
 use Rattle.go_body.proofs.LoopLemmas.{all_stmts}
 use Rattle.go_body.proofs.PartLemmas.{body_is}
-use Rattle.go_leaf.proofs.ViewLemmas.{block_whole}
+use Rattle.go_body.proofs.ViewLemmas.{block_whole}
 use Rattle.go_body.proofs.ShapeLemmas.{ends_same}
 
 abbrev if_none : Bool → List typing.Flaw → List typing.Flaw

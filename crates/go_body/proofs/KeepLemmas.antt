@@ -11,18 +11,18 @@ use Rattle.go_core.specs.declared.statement.CoreStmt.{CoreStmt}
 use Rattle.go_typing.specs.Env.{Bind, find}
 use Rattle.go_typing.specs.Scopes as scopes
 use Rattle.go_typing.specs.Scopes.{visible, without_last}
-use Rattle.go_scopes.specs.EnvView.{table_of, env_of}
-use Rattle.go_callee.specs.Words.{types_of, scopes_of}
-use Rattle.go_answers.specs.declared.answer.Flaw.{Flaw}
-use Rattle.go_statements.specs.Walk as go
-use Rattle.go_statements.specs.Walk.{Did, pushed}
+use Rattle.go_operands.specs.EnvView.{table_of, env_of}
+use Rattle.go_calls.specs.Words.{types_of, scopes_of}
+use Rattle.go_operands.specs.declared.answers.answer.Flaw.{Flaw}
+use Rattle.go_typing.specs.Walk as go
+use Rattle.go_typing.specs.Walk.{Did, pushed}
 use Rattle.go_walk.specs.WalkView.{walk_of, depth, Keeps}
-use Rattle.go_walk.specs.declared.walk.Walk.{Walk}
-use Rattle.go_local_consts.specs.Plain.{IsPlain}
-use Rattle.go_valued.specs.Outcome.{Does}
-use Rattle.go_simple.specs.AroundView.{ResultsBelow, results_of, around_of}
-use Rattle.go_simple.specs.declared.around.Around.{Around}
-use Rattle.go_branch.specs.Passed.{Passes}
+use Rattle.go_walk.specs.declared.walk.walk.Walk.{Walk}
+use Rattle.go_body.specs.Plain.{IsPlain}
+use Rattle.go_assign.specs.Outcome.{Does}
+use Rattle.go_define.specs.AroundView.{ResultsBelow, results_of, around_of}
+use Rattle.go_define.specs.declared.simple.around.Around.{Around}
+use Rattle.go_assign.specs.Passed.{Passes}
 use Rattle.go_sound.specs.GoesOn.{GoesOn}
 use Rattle.go_body.specs.Bodies.{Ready}
 

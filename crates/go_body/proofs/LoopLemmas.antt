@@ -15,20 +15,20 @@ use Rattle.go_core.specs.CoreTree as core
 use Rattle.go_core.specs.CoreView as views
 use Rattle.go_core.specs.declared.statement.CoreStmt.{CoreStmt}
 use Rattle.go_typing.specs.Answer as typing
-use Rattle.go_scopes.specs.EnvView.{table_of}
-use Rattle.go_answers.specs.AnswerView.{flaw_view}
-use Rattle.go_answers.specs.declared.answer.Flaw.{Flaw}
-use Rattle.go_statements.specs.Walk as go
-use Rattle.go_statements.specs.Walk.{Did, did, and_then, within}
-use Rattle.go_statements.specs.Statements.{falls, stmt, stmts, block, clause_stmts, unlabeled}
+use Rattle.go_operands.specs.EnvView.{table_of}
+use Rattle.go_operands.specs.AnswerView.{flaw_view}
+use Rattle.go_operands.specs.declared.answers.answer.Flaw.{Flaw}
+use Rattle.go_typing.specs.Walk as go
+use Rattle.go_typing.specs.Walk.{Did, did, and_then, within}
+use Rattle.go_typing.specs.Statements.{falls, stmt, stmts, block, clause_stmts, unlabeled}
 use Rattle.go_walk.specs.WalkView.{walk_of, depth, Keeps}
-use Rattle.go_walk.specs.declared.walk.Walk.{Walk}
-use Rattle.go_valued.specs.Outcome.{Does}
-use Rattle.go_leaf.specs.Forms.{is_fallthrough}
-use Rattle.go_body.specs.Left.{StmtsLeft}
+use Rattle.go_walk.specs.declared.walk.walk.Walk.{Walk}
+use Rattle.go_assign.specs.Outcome.{Does}
+use Rattle.go_body.specs.Forms.{is_fallthrough}
+use Rattle.go_body.specs.BodyLeft.{StmtsLeft}
 use Rattle.go_body.proofs.KeepLemmas.{keeps_back}
-use Rattle.go_leaf.proofs.FallsLemmas.{next_at, past, fallen_on, falls_alone}
-use Rattle.go_leaf.proofs.ViewLemmas.{block_whole}
+use Rattle.go_body.proofs.FallsLemmas.{next_at, past, fallen_on, falls_alone}
+use Rattle.go_body.proofs.ViewLemmas.{block_whole}
 
 -- ---- what is left
 

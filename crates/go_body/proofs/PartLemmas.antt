@@ -13,18 +13,18 @@ use Rattle.go_core.specs.declared.node.CoreExpr.{CoreExpr}
 use Rattle.go_core.specs.declared.statement.CoreStmt.{CoreStmt}
 use Rattle.go_typing.specs.Answer as typing
 use Rattle.go_typing.specs.Scopes as scopes
-use Rattle.go_scopes.specs.EnvView.{table_of}
-use Rattle.go_answers.specs.AnswerView.{flaw_view}
-use Rattle.go_answers.specs.declared.answer.Flaw.{Flaw}
-use Rattle.go_statements.specs.Walk as go
-use Rattle.go_statements.specs.Walk.{Did, body, pushed, popped, within, uses}
-use Rattle.go_statements.specs.Expressions.{condition, core_of}
-use Rattle.go_statements.specs.Statements.{if_did, for_did, condition_core, condition_told, condition_uses, next_label}
+use Rattle.go_operands.specs.EnvView.{table_of}
+use Rattle.go_operands.specs.AnswerView.{flaw_view}
+use Rattle.go_operands.specs.declared.answers.answer.Flaw.{Flaw}
+use Rattle.go_typing.specs.Walk as go
+use Rattle.go_typing.specs.Walk.{Did, body, pushed, popped, within, uses}
+use Rattle.go_typing.specs.Expressions.{condition, core_of}
+use Rattle.go_typing.specs.Statements.{if_did, for_did, condition_core, condition_told, condition_uses, next_label}
 use Rattle.go_walk.specs.WalkView.{walk_of, depth, Keeps}
-use Rattle.go_walk.specs.declared.walk.Walk.{Walk}
-use Rattle.go_valued.specs.Taken.{StandsFor}
-use Rattle.go_valued.specs.Outcome.{Does}
-use Rattle.go_branch.specs.Passed.{Passes}
+use Rattle.go_walk.specs.declared.walk.walk.Walk.{Walk}
+use Rattle.go_assign.specs.Taken.{StandsFor}
+use Rattle.go_assign.specs.Outcome.{Does}
+use Rattle.go_assign.specs.Passed.{Passes}
 use Rattle.go_body.specs.Both.{DoesBoth}
 
 keeps_back : (a b : TypeTable) → KeepsTrees a b → size a ≤ size b → (ts : List Ty) → Keeps b ts → Keeps a ts

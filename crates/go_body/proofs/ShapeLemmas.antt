@@ -13,7 +13,7 @@ use Rattle.go_core.specs.declared.statement.CoreClause.{CoreClause, CoreClause-F
 use Rattle.go_core.specs.declared.statement.CoreClauses.{CoreClauses, CoreClauses-F, map-CoreClauses, roll-CoreClauses, fold-roll-CoreClauses}
 use Rattle.go_core.specs.declared.statement.CoreStmt.{CoreStmt, CoreStmt-F, map-CoreStmt, roll-CoreStmt, fold-roll-CoreStmt, ind-CoreStmt}
 use Rattle.go_core.specs.declared.statement.CoreStmts.{CoreStmts, CoreStmts-F, map-CoreStmts, roll-CoreStmts, fold-roll-CoreStmts}
-use Rattle.go_stmt_nodes.specs.ClauseView.{clause_view, clauses_view, case_view, cases_view}
+use Rattle.go_walk.specs.ClauseView.{clause_view, clauses_view, case_view, cases_view}
 
 pub record Same (p q : core.Stmt) : Type 0 where
   pub ends : is_terminating p ≡ is_terminating q

@@ -11,7 +11,7 @@ use Rattle.go_syntax.specs.declared.tree.Block.{Block, out-Block}
 use Rattle.go_syntax.specs.declared.tree.Clause.{Clause, out-Clause}
 use Rattle.go_syntax.specs.declared.tree.StmtForm.{StmtForm}
 use Rattle.go_syntax.specs.declared.tree.StmtForm.TheVariants as form
-use Rattle.go_leaf.proofs.ViewLemmas.{view_Block, view_If, view_For, view_Switch, view_Labeled, block_whole, clause_whole}
+use Rattle.go_body.proofs.ViewLemmas.{view_Block, view_If, view_For, view_Switch, view_Labeled, block_whole, clause_whole}
 
 abbrev mutual
   pub stmt_size : t.Stmt → ℕ

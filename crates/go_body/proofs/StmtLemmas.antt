@@ -23,47 +23,47 @@ use Rattle.go_core.specs.CoreView as views
 use Rattle.go_core.specs.CoreView.{bound_of, tests_of, clauses_of}
 use Rattle.go_core.specs.declared.node.CoreExpr.{CoreExpr}
 use Rattle.go_core.specs.declared.statement.CoreStmt.{CoreStmt}
-use Rattle.go_stmt_nodes.specs.ClauseView as nodes
+use Rattle.go_walk.specs.ClauseView as nodes
 use Rattle.go_typing.specs.Answer.{flaw}
 use Rattle.go_typing.specs.Scopes as scopes
 use Rattle.go_typing.specs.Scopes.{without_last}
 use Rattle.go_const.specs.declared.constant.Const.{Const}
 use Rattle.go_core.specs.declared.statement.CoreTest.{CoreTest}
 use Rattle.go_core.specs.declared.statement.CoreClause.{CoreClause}
-use Rattle.go_cases.specs.declared.seen.ConstSet.{ConstSet}
-use Rattle.go_scopes.specs.EnvView.{table_of, env_of}
-use Rattle.go_callee.specs.Words.{types_of, scopes_of}
-use Rattle.go_answers.specs.AnswerView.{flaw_view}
-use Rattle.go_answers.specs.declared.answer.Flaw.{Flaw}
-use Rattle.go_statements.specs.Walk as go
-use Rattle.go_statements.specs.Walk.{Did, pushed, popped, within, uses, uses_all}
-use Rattle.go_statements.specs.Expressions.{condition, core_of}
-use Rattle.go_statements.specs.Labels.{label_of}
-use Rattle.go_statements.specs.Statements as statements
-use Rattle.go_statements.specs.Statements.{Clauses, if_did, for_did, post_did, switch_did, limited, with_target, unlabeled, condition_core, condition_told, condition_uses, clauses_limit, is_default, case_tests, next_label, standing, stmt, maybe, block, stmts, clause_stmts, clauses}
+use Rattle.go_walk.specs.declared.cases.seen.ConstSet.{ConstSet}
+use Rattle.go_operands.specs.EnvView.{table_of, env_of}
+use Rattle.go_calls.specs.Words.{types_of, scopes_of}
+use Rattle.go_operands.specs.AnswerView.{flaw_view}
+use Rattle.go_operands.specs.declared.answers.answer.Flaw.{Flaw}
+use Rattle.go_typing.specs.Walk as go
+use Rattle.go_typing.specs.Walk.{Did, pushed, popped, within, uses, uses_all}
+use Rattle.go_typing.specs.Expressions.{condition, core_of}
+use Rattle.go_typing.specs.Labels.{label_of}
+use Rattle.go_typing.specs.Statements as statements
+use Rattle.go_typing.specs.Statements.{Clauses, if_did, for_did, post_did, switch_did, limited, with_target, unlabeled, condition_core, condition_told, condition_uses, clauses_limit, is_default, case_tests, next_label, standing, stmt, maybe, block, stmts, clause_stmts, clauses}
 use Rattle.go_walk.specs.WalkView.{walk_of, depth, Keeps}
-use Rattle.go_walk.specs.declared.parts.Before.{Before}
-use Rattle.go_walk.specs.declared.walk.Walk.{Walk}
-use Rattle.go_valued.specs.Taken.{StandsFor}
-use Rattle.go_valued.specs.Outcome.{Does}
-use Rattle.go_branch.specs.Passed.{Passes}
-use Rattle.go_simple.specs.AroundView.{around_of}
-use Rattle.go_simple.specs.CaseView.{HasAll}
-use Rattle.go_simple.specs.declared.around.Around.{Around}
+use Rattle.go_walk.specs.declared.walk.parts.Before.{Before}
+use Rattle.go_walk.specs.declared.walk.walk.Walk.{Walk}
+use Rattle.go_assign.specs.Taken.{StandsFor}
+use Rattle.go_assign.specs.Outcome.{Does}
+use Rattle.go_assign.specs.Passed.{Passes}
+use Rattle.go_define.specs.AroundView.{around_of}
+use Rattle.go_define.specs.CaseView.{HasAll}
+use Rattle.go_define.specs.declared.simple.around.Around.{Around}
 use Rattle.go_sound.specs.GoesOn.{GoesOn}
 use Rattle.go_sound.proofs.GoesOnSteps.{then_on, uses_all_on, within_on}
 use Rattle.go_sound.proofs.GoesOnBodies.{post_on, stmt_on, maybe_on, block_on, clause_on}
 use Rattle.go_body.specs.Bodies.{Ready}
-use Rattle.go_leaf.specs.Made.{clauses_before, first_default}
+use Rattle.go_body.specs.Made.{clauses_before, first_default}
 use Rattle.go_body.specs.Clauses.{ClauseDoes, ClausesDo}
-use Rattle.go_leaf.specs.Tags.{IsTagged, Tested}
-use Rattle.go_leaf.specs.declared.made.Made.{Made}
-use Rattle.go_leaf.specs.declared.tagged.Tagged.{Tagged}
+use Rattle.go_body.specs.Tags.{IsTagged, Tested}
+use Rattle.go_body.specs.declared.leaf.made.Made.{Made}
+use Rattle.go_body.specs.declared.leaf.tagged.Tagged.{Tagged}
 use Rattle.go_body.proofs.KeepLemmas.{keeps_back, around_same, tag_same, tag_more, does_before, plain_on, results_more, ready_env, ready_passed, ready_done}
 use Rattle.go_body.proofs.PartLemmas.{within_does, both_does, if_does, for_does}
-use Rattle.go_leaf.proofs.LeafLemmas.{nothing_does, many_since, many_does}
+use Rattle.go_body.proofs.LeafLemmas.{nothing_does, many_since, many_does}
 use Rattle.go_body.proofs.SwitchLemmas.{head_exprs, head_stmts, head_onward, head_does, clause_does, Turned, turned_step, switch_does}
-use Rattle.go_leaf.proofs.ViewLemmas.{view_Block, view_If, view_For, view_Switch, view_Labeled}
+use Rattle.go_body.proofs.ViewLemmas.{view_Block, view_If, view_For, view_Switch, view_Labeled}
 
 -- ---- forms in the definitions' words
 

@@ -19,38 +19,38 @@ use Rattle.go_core.specs.CoreView.{tests_of, clauses_of}
 use Rattle.go_core.specs.declared.statement.CoreTest.{CoreTest}
 use Rattle.go_core.specs.declared.statement.CoreClause.{CoreClause}
 use Rattle.go_core.specs.declared.statement.CoreStmt.{CoreStmt}
-use Rattle.go_stmt_nodes.specs.ClauseView as nodes
+use Rattle.go_walk.specs.ClauseView as nodes
 use Rattle.go_typing.specs.Answer as typing
 use Rattle.go_typing.specs.Answer.{flaw}
 use Rattle.go_typing.specs.Typing.{place_of}
 use Rattle.go_typing.specs.Scopes as scopes
-use Rattle.go_scopes.specs.EnvView.{table_of, env_of}
-use Rattle.go_callee.specs.Words.{types_of}
-use Rattle.go_answers.specs.AnswerView.{flaw_view}
-use Rattle.go_answers.specs.declared.answer.Flaw.{Flaw}
-use Rattle.go_statements.specs.Walk as go
-use Rattle.go_statements.specs.Walk.{Did, Target, body, fresh, uses_all, within}
-use Rattle.go_statements.specs.Expressions.{core_of, flaws_in, value_alone, type_of}
-use Rattle.go_statements.specs.Statements as statements
-use Rattle.go_statements.specs.Statements.{Tests, Clauses, one_clause, default_from, default_flaws, is_default, falls, is_last, clauses, clause_stmts, case_tests, case_answer, case_constant, repeated, repeated_flaws, and_constant, tag_of, condition_uses, next_label, switch_did}
+use Rattle.go_operands.specs.EnvView.{table_of, env_of}
+use Rattle.go_calls.specs.Words.{types_of}
+use Rattle.go_operands.specs.AnswerView.{flaw_view}
+use Rattle.go_operands.specs.declared.answers.answer.Flaw.{Flaw}
+use Rattle.go_typing.specs.Walk as go
+use Rattle.go_typing.specs.Walk.{Did, Target, body, fresh, uses_all, within}
+use Rattle.go_typing.specs.Expressions.{core_of, flaws_in, value_alone, type_of}
+use Rattle.go_typing.specs.Statements as statements
+use Rattle.go_typing.specs.Statements.{Tests, Clauses, one_clause, default_from, default_flaws, is_default, falls, is_last, clauses, clause_stmts, case_tests, case_answer, case_constant, repeated, repeated_flaws, and_constant, tag_of, condition_uses, next_label, switch_did}
 use Rattle.go_walk.specs.WalkView.{walk_of, depth, Keeps}
-use Rattle.go_walk.specs.declared.walk.Walk.{Walk}
-use Rattle.go_valued.specs.Outcome.{Does}
-use Rattle.go_branch.specs.Passed.{Passes}
-use Rattle.go_cases.specs.declared.seen.ConstSet.{ConstSet}
-use Rattle.go_simple.specs.AroundView.{around_of}
-use Rattle.go_simple.specs.CaseView.{tests_before, HasAll}
-use Rattle.go_simple.specs.declared.around.Around.{Around}
+use Rattle.go_walk.specs.declared.walk.walk.Walk.{Walk}
+use Rattle.go_assign.specs.Outcome.{Does}
+use Rattle.go_assign.specs.Passed.{Passes}
+use Rattle.go_walk.specs.declared.cases.seen.ConstSet.{ConstSet}
+use Rattle.go_define.specs.AroundView.{around_of}
+use Rattle.go_define.specs.CaseView.{tests_before, HasAll}
+use Rattle.go_define.specs.declared.simple.around.Around.{Around}
 use Rattle.go_body.specs.Bodies.{Ready}
-use Rattle.go_leaf.specs.Made.{clauses_before, first_default, IsNothing}
+use Rattle.go_body.specs.Made.{clauses_before, first_default, IsNothing}
 use Rattle.go_body.specs.Clauses.{or_later, ClauseDoes, ClausesLeft, ClausesDo}
-use Rattle.go_leaf.specs.Tags.{tag_type, tag_stmts, IsTagged, Tested}
-use Rattle.go_leaf.specs.declared.made.Made.{Made}
-use Rattle.go_leaf.specs.declared.tagged.Tagged.{Tagged}
+use Rattle.go_body.specs.Tags.{tag_type, tag_stmts, IsTagged, Tested}
+use Rattle.go_body.specs.declared.leaf.made.Made.{Made}
+use Rattle.go_body.specs.declared.leaf.tagged.Tagged.{Tagged}
 use Rattle.go_body.proofs.KeepLemmas.{keeps_back, around_same, tag_same, tag_more}
-use Rattle.go_leaf.proofs.FallsLemmas.{next_at, past}
+use Rattle.go_body.proofs.FallsLemmas.{next_at, past}
 use Rattle.go_body.proofs.PartLemmas.{body_is}
-use Rattle.go_leaf.proofs.ViewLemmas.{clause_whole}
+use Rattle.go_body.proofs.ViewLemmas.{clause_whole}
 
 -- ---- the cases of a clause, in a walk with other types for its variables
 

@@ -8,18 +8,18 @@ use Rattle.go_core.specs.CoreTree as core
 use Rattle.go_core.specs.CoreView.{tests_of, clauses_of}
 use Rattle.go_core.specs.declared.statement.CoreTest.{CoreTest}
 use Rattle.go_core.specs.declared.statement.CoreClause.{CoreClause}
-use Rattle.go_stmt_nodes.specs.ClauseView.{clause_view}
-use Rattle.go_answers.specs.AnswerView.{flaw_view}
-use Rattle.go_answers.specs.declared.answer.Flaw.{Flaw}
-use Rattle.go_scopes.specs.EnvView.{table_of}
-use Rattle.go_statements.specs.Walk as go
-use Rattle.go_statements.specs.Walk.{Did, body}
-use Rattle.go_statements.specs.Statements.{Tests, Clauses, default_flaws}
+use Rattle.go_walk.specs.ClauseView.{clause_view}
+use Rattle.go_operands.specs.AnswerView.{flaw_view}
+use Rattle.go_operands.specs.declared.answers.answer.Flaw.{Flaw}
+use Rattle.go_operands.specs.EnvView.{table_of}
+use Rattle.go_typing.specs.Walk as go
+use Rattle.go_typing.specs.Walk.{Did, body}
+use Rattle.go_typing.specs.Statements.{Tests, Clauses, default_flaws}
 use Rattle.go_walk.specs.WalkView.{walk_of, depth, Keeps}
-use Rattle.go_walk.specs.declared.walk.Walk.{Walk}
-use Rattle.go_simple.specs.CaseView.{tests_before}
-use Rattle.go_leaf.specs.Made.{clauses_before, first_default}
-use Rattle.go_leaf.specs.declared.made.Made.{Made}
+use Rattle.go_walk.specs.declared.walk.walk.Walk.{Walk}
+use Rattle.go_define.specs.CaseView.{tests_before}
+use Rattle.go_body.specs.Made.{clauses_before, first_default}
+use Rattle.go_body.specs.declared.leaf.made.Made.{Made}
 
 -- a number that is there already stays
 abbrev pub or_later : Option ℕ → Option ℕ → Option ℕ

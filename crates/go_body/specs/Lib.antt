@@ -1,4 +1,14 @@
+pub mod LocalVarsSpecs
+pub mod LocalVarsLeft
+pub mod LocalConstsSpecs
+pub mod Plain
+pub mod Forms
+pub mod Made
+pub mod Spared
+pub mod Standing
+pub mod Tags
+pub mod Whole
 pub mod Bodies
 pub mod Both
 pub mod Clauses
-pub mod Left
+pub mod BodyLeft

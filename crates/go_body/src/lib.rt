@@ -1,12 +1,11 @@
-//! The body of a function: statements with statements in them.
+//! The bodies of functions: declarations in them, and statements with statements in them.
 //!
-//! The Go Programming Language Specification (as of Go 1.17), "Blocks", "If statements", "For
-//! statements", "Switch statements", "Labeled statements", "Terminating statements". The definitions
-//! stand in go_statements (`specs/Statements.antt`).
+//! The Go Programming Language Specification (as of Go 1.17), "Blocks", "Statements", "Variable
+//! declarations".
 #![tactic(auto)]
 
 pub mod body;
-pub mod plain;
-pub mod stmt;
-
-pub use body::function_body;
+pub mod leaf;
+pub mod local;
+pub mod local_consts;
+pub mod local_vars;

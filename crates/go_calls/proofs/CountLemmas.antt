@@ -10,9 +10,9 @@ use Rattle.go_core.specs.SameType.{same_types}
 use Rattle.go_typing.specs.Answer.{bad}
 use Rattle.go_typing.specs.Operand.{Operand}
 use Rattle.go_typing.specs.Call.{each, same_count, one_count, length_given}
-use Rattle.go_given.specs.declared.kinds.Placed.{Placed}
-use Rattle.go_given.specs.CallView.{operands_view}
-use Rattle.go_given.proofs.OrderLemmas.{view_count}
+use Rattle.go_calls.specs.declared.given.kinds.Placed.{Placed}
+use Rattle.go_calls.specs.CallView.{operands_view}
+use Rattle.go_calls.proofs.OrderLemmas.{view_count}
 
 -- types and types
 pub one_same : (ts : List Ty) (a b : List TypeId) → length a ≡ length b → one_count (trees_of ts a) (trees_of ts b) ≡ true

@@ -1,9 +1,9 @@
 -- Predeclared functions whose calls are built.
 use Rattle.go_typing.specs.Env as env
-use Rattle.go_calls.specs.declared.builtin.Built.{Built}
-use Rattle.go_calls.specs.declared.builtin.Built.TheVariants as code
-use Rattle.go_calls.specs.declared.printing.Printer.{Printer}
-use Rattle.go_calls.specs.declared.printing.Printer.TheVariants as printers
+use Rattle.go_calls.specs.declared.calls.builtin.Built.{Built}
+use Rattle.go_calls.specs.declared.calls.builtin.Built.TheVariants as code
+use Rattle.go_calls.specs.declared.calls.printing.Printer.{Printer}
+use Rattle.go_calls.specs.declared.calls.printing.Printer.TheVariants as printers
 
 abbrev pub printer_view : Printer → env.Builtin
 printer_view printers.Print = env.Print

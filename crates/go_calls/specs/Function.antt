@@ -7,10 +7,10 @@ use Rattle.go_type.specs.Table.{places, size}
 use Rattle.go_type.specs.declared.table.TypeTable.{TypeTable}
 use Rattle.go_core.specs.SameType.{same_types}
 use Rattle.go_typing.specs.Call.{one_count}
-use Rattle.go_given.specs.Types.{AreTypesOf}
-use Rattle.go_calls.specs.declared.function.Function.{Function}
-use Rattle.go_calls.specs.declared.function.Fit.{Fit}
-use Rattle.go_calls.specs.declared.function.Fit.TheVariants as code
+use Rattle.go_calls.specs.Types.{AreTypesOf}
+use Rattle.go_calls.specs.declared.calls.function.Function.{Function}
+use Rattle.go_calls.specs.declared.calls.function.Fit.{Fit}
+use Rattle.go_calls.specs.declared.calls.function.Fit.TheVariants as code
 
 -- the type of what a call gives: that of the one result, or the tuple of the results
 abbrev pub given_type : Tys → Ty

@@ -1,3 +1,11 @@
+pub mod CallView
+pub mod GivenView
+pub mod Types
+pub mod Passed
+pub mod ConversionAs
 pub mod Function
 pub mod BuiltView
 pub mod CallAs
+pub mod Words
+pub mod Called
+pub mod ResultTypes

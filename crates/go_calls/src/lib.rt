@@ -1,12 +1,10 @@
-//! The rows of calls: of functions by their names, of `len`, and of `print` and `println`.
+//! Calls and conversions: what is called, what it is given, and the rows of names and literals.
 //!
-//! The Go Programming Language Specification (as of Go 1.17), "Calls", "Length and capacity",
-//! "Bootstrapping". The rows stand in go_typing, as `function_row` and `built_in_row`; each function
-//! here gives what its row gives.
+//! The Go Programming Language Specification (as of Go 1.17), "Calls", "Conversions", "Operands".
 #![tactic(auto)]
 
-pub mod builtin;
-pub mod function;
-pub mod length;
-pub mod named;
-pub mod printing;
+pub mod callee;
+pub mod calls;
+pub mod conversions;
+pub mod given;
+pub mod names;

@@ -7,21 +7,21 @@ use Rattle.go_type.specs.Table.{places, size}
 use Rattle.go_type.specs.declared.table.TypeTable.{TypeTable}
 use Rattle.go_typing.specs.Env.{Bind}
 use Rattle.go_typing.specs.Scopes.{visible}
-use Rattle.go_statements.specs.Declare.{counting}
+use Rattle.go_typing.specs.Declare.{counting}
 use Rattle.go_walk.proofs.ScopeLemmas.{counts}
 use Rattle.go_typing.specs.Scopes as scopes
 use Rattle.go_syntax.specs.Tree as t
-use Rattle.go_packages.specs.Told.{types_told}
-use Rattle.go_statements.specs.Expressions.{type_in}
+use Rattle.go_typing.specs.Told.{types_told}
+use Rattle.go_typing.specs.Expressions.{type_in}
 use Rattle.go_syntax.specs.View.{expr_view, type_spec_view}
 use Rattle.go_syntax.specs.declared.tree.TypeSpec.{TypeSpec, out-TypeSpec, fold_out-TypeSpec}
 use Rattle.go_typing.specs.Answer.{Flaw}
-use Rattle.go_scopes.specs.declared.env.Env.{Env}
-use Rattle.go_scopes.specs.EnvView.{table_of, env_of}
-use Rattle.go_statements.specs.Walk.{Walk}
+use Rattle.go_operands.specs.declared.scopes.env.Env.{Env}
+use Rattle.go_operands.specs.EnvView.{table_of, env_of}
+use Rattle.go_typing.specs.Walk.{Walk}
 use Rattle.go_walk.specs.WalkView.{walk_outside}
-use Rattle.go_typed.specs.Raw.{Grows}
-use Rattle.go_constants.proofs.GrowLemmas.{grows_not, grows_on, same_walk}
+use Rattle.go_expr.specs.Raw.{Grows}
+use Rattle.go_assign.proofs.GrowLemmas.{grows_not, grows_on, same_walk}
 
 -- What is told with what is left is what was told before with all: `told w rest` of what is left, by what is known in w.
 pub record Goes {R : Type 0} (told : Walk → R → List Flaw) (a b : Env) (rest all : R) (before now : List Flaw) : Type 0 where

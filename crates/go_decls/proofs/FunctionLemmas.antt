@@ -6,10 +6,10 @@ use Rattle.gj_base.specs.declared.place.Place.{Place}
 use Rattle.go_syntax.specs.Tree as t
 use Rattle.go_syntax.specs.declared.tree.Name.{Name}
 use Rattle.go_typing.specs.Answer.{Flaw, flaw}
-use Rattle.go_statements.specs.Walk.{Walk}
-use Rattle.go_packages.specs.Signature.{SigTypes, sig_flaws, sig_types}
-use Rattle.go_packages.specs.Items.{is_init}
-use Rattle.go_packages.specs.Told.{is_main, takes_something, main_told, function_told}
+use Rattle.go_typing.specs.Walk.{Walk}
+use Rattle.go_typing.specs.Signature.{SigTypes, sig_flaws, sig_types}
+use Rattle.go_typing.specs.Items.{is_init}
+use Rattle.go_typing.specs.Told.{is_main, takes_something, main_told, function_told}
 
 -- ---- `main`
 

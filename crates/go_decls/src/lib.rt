@@ -1,11 +1,13 @@
-//! What is told of the declarations of a package, bodies of functions and names aside.
+//! The declarations of a package: signatures, what names stand for whatever their order, and what is
+//! told of them.
 //!
-//! The Go Programming Language Specification (as of Go 1.17), "Constant declarations", "Type
-//! declarations", "Program execution". The definitions stand in go_packages (`specs/Told.antt`).
+//! The Go Programming Language Specification (as of Go 1.17), "Declarations and scope", "Function
+//! declarations", "Method declarations".
 #![tactic(auto)]
 
-pub mod constants;
 pub mod decls;
-pub mod functions;
-
-pub use decls::decls_told;
+pub mod heads;
+pub mod known;
+pub mod params;
+pub mod signatures;
+pub mod told;

@@ -18,23 +18,23 @@ use Rattle.go_core.specs.declared.node.CoreExpr.{CoreExpr}
 use Rattle.go_core.specs.declared.statement.CoreStmt.{CoreStmt}
 use Rattle.go_core.specs.declared.statement.Target as code_target
 use Rattle.go_typing.specs.Answer.{Flaw, flaw}
-use Rattle.go_scopes.specs.EnvView.{table_of}
-use Rattle.go_answers.specs.AnswerView.{flaw_view}
-use Rattle.go_answers.specs.declared.answer.Flaw as code
-use Rattle.go_statements.specs.Walk as go
-use Rattle.go_statements.specs.Walk.{Did}
-use Rattle.go_statements.specs.Expressions.{core_of}
-use Rattle.go_statements.specs.Assign.{where_typed}
+use Rattle.go_operands.specs.EnvView.{table_of}
+use Rattle.go_operands.specs.AnswerView.{flaw_view}
+use Rattle.go_operands.specs.declared.answers.answer.Flaw as code
+use Rattle.go_typing.specs.Walk as go
+use Rattle.go_typing.specs.Walk.{Did}
+use Rattle.go_typing.specs.Expressions.{core_of}
+use Rattle.go_typing.specs.Assign.{where_typed}
 use Rattle.go_walk.specs.WalkView.{walk_of, depth, Keeps}
-use Rattle.go_walk.specs.declared.walk.Walk.{Walk}
-use Rattle.go_typed.specs.declared.raw.Raw as code_raw
-use Rattle.go_typed.specs.Raw.{Raw, raw_view, raws_after, RawBelow}
-use Rattle.go_valued.specs.Outcome.{Does, Adds}
-use Rattle.go_valued.specs.Settled.{all_known, all_told, several_in}
-use Rattle.go_effects.specs.Moves.{Moves}
-use Rattle.go_effects.proofs.WalkLemmas.{moves_in}
-use Rattle.go_effects.proofs.OutcomeLemmas.{does_made, does_same}
-use Rattle.go_define.specs.declared.fresh.Fresh as code_fresh
+use Rattle.go_walk.specs.declared.walk.walk.Walk.{Walk}
+use Rattle.go_expr.specs.declared.typed.raw.Raw as code_raw
+use Rattle.go_expr.specs.Raw.{Raw, raw_view, raws_after, RawBelow}
+use Rattle.go_assign.specs.Outcome.{Does, Adds}
+use Rattle.go_assign.specs.Settled.{all_known, all_told, several_in}
+use Rattle.go_assign.specs.Moves.{Moves}
+use Rattle.go_assign.proofs.WalkLemmas.{moves_in}
+use Rattle.go_assign.proofs.OutcomeLemmas.{does_made, does_same}
+use Rattle.go_define.specs.declared.define.fresh.Fresh as code_fresh
 use Rattle.go_define.specs.FreshView.{Spot, fresh_view, fresh_after, FreshBelow, spots_typed}
 use Rattle.go_define.specs.Defining.{Take, Done, done, take_flaws, Defines, spot_stmts, spot_target, spot_walk, spot_valued, valued_take, value_takes, value_cores, type_flaws, type_take, type_takes, defined, unknowns, spot_flaws, spots_flaws, parts_flaws, not_defined, as_many_values, as_many_types, defined_by}
 

@@ -11,18 +11,18 @@ use Rattle.go_core.specs.CoreView.{stmt_view, target_view}
 use Rattle.go_core.specs.declared.statement.CoreStmt.{CoreStmt}
 use Rattle.go_core.specs.declared.statement.Target as code_target
 use Rattle.go_typing.specs.Answer.{Flaw, flaw}
-use Rattle.go_scopes.specs.EnvView.{table_of}
-use Rattle.go_answers.specs.AnswerView.{flaw_view}
-use Rattle.go_answers.specs.declared.answer.Flaw as code
-use Rattle.go_statements.specs.Walk as go
-use Rattle.go_statements.specs.Walk.{is_there, with_unknown}
-use Rattle.go_statements.specs.Expressions.{Valued, type_of, core_of}
-use Rattle.go_statements.specs.Assign.{Left, left_flaws, takes}
-use Rattle.go_statements.specs.Declare.{declare_one, declare_stmts, declare_target}
+use Rattle.go_operands.specs.EnvView.{table_of}
+use Rattle.go_operands.specs.AnswerView.{flaw_view}
+use Rattle.go_operands.specs.declared.answers.answer.Flaw as code
+use Rattle.go_typing.specs.Walk as go
+use Rattle.go_typing.specs.Walk.{is_there, with_unknown}
+use Rattle.go_typing.specs.Expressions.{Valued, type_of, core_of}
+use Rattle.go_typing.specs.Assign.{Left, left_flaws, takes}
+use Rattle.go_typing.specs.Declare.{declare_one, declare_stmts, declare_target}
 use Rattle.go_walk.specs.WalkView.{walk_of, depth}
-use Rattle.go_walk.specs.declared.walk.Walk.{Walk}
-use Rattle.go_effects.specs.Moves.{Moves}
-use Rattle.go_effects.proofs.WalkLemmas.{moves_in}
+use Rattle.go_walk.specs.declared.walk.walk.Walk.{Walk}
+use Rattle.go_assign.specs.Moves.{Moves}
+use Rattle.go_assign.proofs.WalkLemmas.{moves_in}
 use Rattle.go_define.specs.FreshView.{new_spot, old_spot}
 use Rattle.go_define.specs.Defining.{spot_stmts, spot_target, spot_walk, type_flaws}
 

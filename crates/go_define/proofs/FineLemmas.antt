@@ -4,13 +4,13 @@ use Rattle.std.specs.Prelude.{if◌then◌else◌}
 use Rattle.std.proofs.Math.Seq.{drop-cons}
 use Rattle.go_type.specs.Tree.{Ty}
 use Rattle.go_typing.specs.Answer.{Flaw, is_known}
-use Rattle.go_answers.specs.AnswerView.{answer_view, flaw_view}
-use Rattle.go_answers.specs.declared.answer.Flaw as code_flaw
-use Rattle.go_statements.specs.Assign.{where_right}
-use Rattle.go_typed.specs.declared.raw.Raw as code
-use Rattle.go_typed.specs.Raw.{Raw, raw_view, raws_after}
-use Rattle.go_valued.specs.Settled.{all_known, all_told}
-use Rattle.go_define.specs.Told.{is_clean, is_fine, all_fine}
+use Rattle.go_operands.specs.AnswerView.{answer_view, flaw_view}
+use Rattle.go_operands.specs.declared.answers.answer.Flaw as code_flaw
+use Rattle.go_typing.specs.Assign.{where_right}
+use Rattle.go_expr.specs.declared.typed.raw.Raw as code
+use Rattle.go_expr.specs.Raw.{Raw, raw_view, raws_after}
+use Rattle.go_assign.specs.Settled.{all_known, all_told}
+use Rattle.go_define.specs.DefineTold.{is_clean, is_fine, all_fine}
 
 -- ---- one
 

@@ -16,22 +16,22 @@ use Rattle.go_type.specs.declared.table.TypeTable.{TypeTable}
 use Rattle.go_core.specs.CoreTree as core
 use Rattle.go_typing.specs.Env.{Bind, is_blank}
 use Rattle.go_typing.specs.Typing.{place_of}
-use Rattle.go_scopes.specs.declared.env.Env.{Env}
-use Rattle.go_scopes.specs.EnvView.{table_of}
-use Rattle.go_callee.specs.Words.{types_of, names_of, scopes_of}
-use Rattle.go_statements.specs.Walk as go
-use Rattle.go_statements.specs.Walk.{is_there}
-use Rattle.go_statements.specs.Assign.{Left, left_place, left_of, fresh_by, blank_name, name_of}
+use Rattle.go_operands.specs.declared.scopes.env.Env.{Env}
+use Rattle.go_operands.specs.EnvView.{table_of}
+use Rattle.go_calls.specs.Words.{types_of, names_of, scopes_of}
+use Rattle.go_typing.specs.Walk as go
+use Rattle.go_typing.specs.Walk.{is_there}
+use Rattle.go_typing.specs.Assign.{Left, left_place, left_of, fresh_by, blank_name, name_of}
 use Rattle.go_walk.specs.WalkView.{walk_outside, depth}
-use Rattle.go_walk.specs.declared.walk.Walk.{Walk}
-use Rattle.go_typed.specs.Raw.{Grows}
-use Rattle.go_effects.specs.Moves.{Stays}
-use Rattle.go_effects.proofs.WalkLemmas.{names_grown, scopes_grown, depth_grown, grows_not}
-use Rattle.go_assign.specs.declared.left.Left as code_left
-use Rattle.go_assign.specs.declared.left.Left.TheVariants as left
+use Rattle.go_walk.specs.declared.walk.walk.Walk.{Walk}
+use Rattle.go_expr.specs.Raw.{Grows}
+use Rattle.go_assign.specs.Moves.{Stays}
+use Rattle.go_assign.proofs.WalkLemmas.{names_grown, scopes_grown, depth_grown, grows_not}
+use Rattle.go_assign.specs.declared.assign.left.Left as code_left
+use Rattle.go_assign.specs.declared.assign.left.Left.TheVariants as left
 use Rattle.go_assign.specs.LeftView.{left_view, LeftBelow}
-use Rattle.go_define.specs.declared.fresh.Fresh as code
-use Rattle.go_define.specs.declared.fresh.Fresh.TheVariants as fresh
+use Rattle.go_define.specs.declared.define.fresh.Fresh as code
+use Rattle.go_define.specs.declared.define.fresh.Fresh.TheVariants as fresh
 use Rattle.go_define.specs.FreshView.{Spot, new_spot, old_spot, blank_spot, other_spot, spot_by, spot_of, spots_of, fresh_view, fresh_after, FreshBelow, plain_name, is_new_spot, any_new_spot, spot_typed, spots_typed}
 
 pub stays_not : (w : Walk) → Stays w w

@@ -5,4 +5,14 @@ mod DefineLemmas
 mod AllLemmas
 mod SpotLemmas
 mod UseLemmas
-mod TopLemmas
+mod DefineTopLemmas
+mod UpdateLemmas
+mod UpdateTopLemmas
+mod CallLemmas
+mod PassedLemmas
+mod ToldLemmas
+mod DoesLemmas
+mod CountLemmas
+mod BackLemmas
+mod ReturnLemmas
+mod CaseLemmas

@@ -12,19 +12,19 @@ use Rattle.go_type.specs.Tree.{Ty}
 use Rattle.go_typing.specs.Env.{is_blank}
 use Rattle.go_typing.specs.Answer.{Flaw, flaw, is_known}
 use Rattle.go_typing.specs.Typing.{place_of}
-use Rattle.go_answers.specs.AnswerView.{answer_view, flaw_view}
-use Rattle.go_answers.specs.declared.answer.Flaw as code
-use Rattle.go_scopes.specs.declared.env.Env.{Env}
-use Rattle.go_callee.specs.Words.{names_of, scopes_of}
-use Rattle.go_statements.specs.Walk as go
-use Rattle.go_statements.specs.Assign.{is_in, no_name_flaws, names_flaws, first_place}
+use Rattle.go_operands.specs.AnswerView.{answer_view, flaw_view}
+use Rattle.go_operands.specs.declared.answers.answer.Flaw as code
+use Rattle.go_operands.specs.declared.scopes.env.Env.{Env}
+use Rattle.go_calls.specs.Words.{names_of, scopes_of}
+use Rattle.go_typing.specs.Walk as go
+use Rattle.go_typing.specs.Assign.{is_in, no_name_flaws, names_flaws, first_place}
 use Rattle.go_walk.specs.WalkView.{walk_outside}
-use Rattle.go_walk.specs.declared.walk.Walk.{Walk}
-use Rattle.go_typed.specs.declared.raw.Raw as code_raw
-use Rattle.go_typed.specs.Raw.{Raw, raw_of, raw_view}
-use Rattle.go_effects.specs.Moves.{Stays}
+use Rattle.go_walk.specs.declared.walk.walk.Walk.{Walk}
+use Rattle.go_expr.specs.declared.typed.raw.Raw as code_raw
+use Rattle.go_expr.specs.Raw.{Raw, raw_of, raw_view}
+use Rattle.go_assign.specs.Moves.{Stays}
 use Rattle.go_define.specs.FreshView.{Spot, plain_name, any_new_spot, spots_typed}
-use Rattle.go_define.specs.Told.{twice_told, no_name_told, name_told_by, name_told, seen_with, all_fine, new_told}
+use Rattle.go_define.specs.DefineTold.{twice_told, no_name_told, name_told_by, name_told, seen_with, all_fine, new_told}
 use Rattle.go_define.proofs.FreshLemmas.{outside_grown}
 
 pub told_none : (fs : List code.Flaw) → map flaw_view fs ≡ map flaw_view fs ++ []

@@ -14,18 +14,18 @@ use Rattle.go_core.specs.CoreView.{exprs_of}
 use Rattle.go_typing.specs.Env.{Bind, is_blank}
 use Rattle.go_typing.specs.Answer.{Flaw, flaw}
 use Rattle.go_typing.specs.Typing.{place_of}
-use Rattle.go_statements.specs.Walk as go
-use Rattle.go_statements.specs.Walk.{Walk, Did, is_there}
-use Rattle.go_statements.specs.Expressions.{Valued, answer_in, several_types, core_of, type_of}
-use Rattle.go_statements.specs.Assign.{left_flaws, left_of, target_of, takes, count_of, same_number, all_typed, all_in_flaws, where_typed, where_right, several_right, side_typed, sides_typed, sides_told, fresh_flaws, old_flaws, Fresh, new_name, old_name, blank_name, no_name, fresh_of, fresh_by, name_of, names_flaws, is_new, any_new, first_place, define_flaws, Defined, no_more, defined_more, define_new, define_one, define_each, defined_did, define_type_new, define_type, define_types, with_unknown_new, with_fresh, unknown_names, define_miscounted, define_call, define_by}
-use Rattle.go_statements.specs.Declare.{declare_one, declare_stmts, declare_target}
-use Rattle.go_typed.specs.Raw.{Raw, raw_of, raws_of}
-use Rattle.go_valued.specs.Settled.{all_known, all_told, several_in}
-use Rattle.go_effects.proofs.RawLemmas.{typed_all, told_all, several_all}
-use Rattle.go_effects.proofs.OutcomeLemmas.{made}
+use Rattle.go_typing.specs.Walk as go
+use Rattle.go_typing.specs.Walk.{Walk, Did, is_there}
+use Rattle.go_typing.specs.Expressions.{Valued, answer_in, several_types, core_of, type_of}
+use Rattle.go_typing.specs.Assign.{left_flaws, left_of, target_of, takes, count_of, same_number, all_typed, all_in_flaws, where_typed, where_right, several_right, side_typed, sides_typed, sides_told, fresh_flaws, old_flaws, Fresh, new_name, old_name, blank_name, no_name, fresh_of, fresh_by, name_of, names_flaws, is_new, any_new, first_place, define_flaws, Defined, no_more, defined_more, define_new, define_one, define_each, defined_did, define_type_new, define_type, define_types, with_unknown_new, with_fresh, unknown_names, define_miscounted, define_call, define_by}
+use Rattle.go_typing.specs.Declare.{declare_one, declare_stmts, declare_target}
+use Rattle.go_expr.specs.Raw.{Raw, raw_of, raws_of}
+use Rattle.go_assign.specs.Settled.{all_known, all_told, several_in}
+use Rattle.go_assign.proofs.RawLemmas.{typed_all, told_all, several_all}
+use Rattle.go_assign.proofs.OutcomeLemmas.{made}
 use Rattle.go_assign.proofs.SideLemmas.{left_same, fit_for}
 use Rattle.go_define.specs.FreshView.{Spot, new_spot, old_spot, blank_spot, other_spot, spot_by, spot_of, spots_of, plain_name, is_new_spot, any_new_spot, spot_typed, spots_typed}
-use Rattle.go_define.specs.Told.{all_fine, names_told}
+use Rattle.go_define.specs.DefineTold.{all_fine, names_told}
 use Rattle.go_define.specs.Defining.{Take, Done, done, take_flaws, spot_stmts, spot_target, spot_walk, spot_valued, value_takes, value_cores, type_flaws, type_takes, defined, unknowns, spot_flaws, spots_flaws, parts_flaws, not_defined, as_many_values, as_many_types, defined_by}
 use Rattle.go_define.proofs.NameLemmas.{seen_after, told_by, flaws_step}
 use Rattle.go_define.proofs.FineLemmas.{fine_right, right_and}

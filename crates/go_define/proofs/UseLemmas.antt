@@ -5,8 +5,8 @@ use Rattle.std.proofs.Math.Seq.{drop-cons}
 use Rattle.go_syntax.specs.Tree as t
 use Rattle.go_syntax.specs.View.{expr_view, exprs_of}
 use Rattle.go_syntax.specs.declared.tree.Expr.{Expr}
-use Rattle.go_statements.specs.Walk.{Walk}
-use Rattle.go_statements.specs.Assign.{is_bare, left_use, fresh_use, fresh_uses}
+use Rattle.go_typing.specs.Walk.{Walk}
+use Rattle.go_typing.specs.Assign.{is_bare, left_use, fresh_use, fresh_uses}
 
 abbrev by : t.Expr → Walk → Bool → Walk
 by e w b = if b then w else left_use e w

@@ -9,18 +9,18 @@ use Rattle.go_core.specs.CoreView.{stmt_view, target_view, exprs_of}
 use Rattle.go_core.specs.declared.statement.CoreStmt.{CoreStmt}
 use Rattle.go_core.specs.declared.statement.Target as code_target
 use Rattle.go_typing.specs.Answer.{Flaw, flaw}
-use Rattle.go_answers.specs.AnswerView.{flaw_view}
-use Rattle.go_answers.specs.declared.answer.Flaw as code
-use Rattle.go_scopes.specs.EnvView.{table_of}
-use Rattle.go_statements.specs.Walk as go
-use Rattle.go_statements.specs.Walk.{Did, is_there, faulty}
-use Rattle.go_statements.specs.Expressions.{Valued, type_of, core_of}
-use Rattle.go_statements.specs.Assign.{target_of, left_flaws, takes, where_typed}
-use Rattle.go_statements.specs.Declare.{declare_one, declare_stmts, declare_target}
+use Rattle.go_operands.specs.AnswerView.{flaw_view}
+use Rattle.go_operands.specs.declared.answers.answer.Flaw as code
+use Rattle.go_operands.specs.EnvView.{table_of}
+use Rattle.go_typing.specs.Walk as go
+use Rattle.go_typing.specs.Walk.{Did, is_there, faulty}
+use Rattle.go_typing.specs.Expressions.{Valued, type_of, core_of}
+use Rattle.go_typing.specs.Assign.{target_of, left_flaws, takes, where_typed}
+use Rattle.go_typing.specs.Declare.{declare_one, declare_stmts, declare_target}
 use Rattle.go_walk.specs.WalkView.{walk_of, depth, Keeps}
-use Rattle.go_walk.specs.declared.walk.Walk.{Walk}
-use Rattle.go_typed.specs.Raw.{Raw}
-use Rattle.go_valued.specs.Settled.{alone, all_known, all_told}
+use Rattle.go_walk.specs.declared.walk.walk.Walk.{Walk}
+use Rattle.go_expr.specs.Raw.{Raw}
+use Rattle.go_assign.specs.Settled.{alone, all_known, all_told}
 use Rattle.go_assign.specs.LeftView.{fitted}
 use Rattle.go_define.specs.FreshView.{Spot, new_spot, old_spot, blank_spot, other_spot, spots_typed}
 

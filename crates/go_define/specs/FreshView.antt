@@ -4,12 +4,12 @@ use Rattle.std.specs.List.{AllByRecursion}
 use Rattle.go_syntax.specs.Tree as t
 use Rattle.go_syntax.specs.declared.tree.Name.{Name}
 use Rattle.go_type.specs.Tree.{Ty}
-use Rattle.go_statements.specs.Walk.{Walk}
-use Rattle.go_statements.specs.Assign.{Left, left_of, is_left, Fresh, new_name, old_name, blank_name, no_name, fresh_of}
+use Rattle.go_typing.specs.Walk.{Walk}
+use Rattle.go_typing.specs.Assign.{Left, left_of, is_left, Fresh, new_name, old_name, blank_name, no_name, fresh_of}
 use Rattle.go_assign.specs.LeftView.{left_view, LeftBelow}
-use Rattle.go_define.specs.declared.fresh.Fresh as code
-use Rattle.go_define.specs.declared.fresh.Fresh.TheVariants as fresh
-use Rattle.go_define.specs.declared.fresh.Freshes.{Freshes}
+use Rattle.go_define.specs.declared.define.fresh.Fresh as code
+use Rattle.go_define.specs.declared.define.fresh.Fresh.TheVariants as fresh
+use Rattle.go_define.specs.declared.define.fresh.Freshes.{Freshes}
 
 -- a new name, a name that the scope has, as a left side, `_`, or what is no name
 pub data Spot : Type 0 where

@@ -1,3 +1,7 @@
 pub mod FreshView
-pub mod Told
+pub mod DefineTold
 pub mod Defining
+pub mod Updating
+pub mod SimpleTold
+pub mod AroundView
+pub mod CaseView

@@ -1,14 +1,9 @@
-//! Short variable declarations: `xs := ys`.
+//! Short variable declarations, updates, and statements without blocks.
 //!
-//! Go, "Short variable declarations". The definitions stand in go_statements (`specs/Assign.antt`).
+//! The Go Programming Language Specification (as of Go 1.17), "Short variable declarations",
+//! "Assignments", "IncDec statements", "Return statements".
 #![tactic(auto)]
 
-pub mod all;
-pub mod fine;
-pub mod fresh;
-pub mod names;
-pub mod one;
-pub mod top;
-pub mod uses;
-
-pub use top::{define, undeclared};
+pub mod define;
+pub mod simple;
+pub mod update;

@@ -1,5 +1,10 @@
+mod LiteralLemmas
+mod NodeLemmas
 mod ViewLemmas
-mod ReadyLemmas
+mod ExprReadyLemmas
 mod WalkLemmas
 mod FaultLemmas
 mod TypedLemmas
+mod RawLemmas
+mod Steps
+mod TypedReadyLemmas

@@ -19,12 +19,12 @@ use Rattle.go_typing.specs.Index.{index_row, slice_row}
 use Rattle.go_typing.specs.Call.{is_built, function_row, built_in_row, called_row}
 use Rattle.go_typing.specs.Typing as go
 use Rattle.go_typing.specs.Typing.{Callee, a_function, a_built_in, by_value, callee_of, call_row, call_flaws, paren_row, prefix_row, operator_row, is_built_prefix, where_true, place_of, typing, bound_part, bound_flaws, all_flaws}
-use Rattle.go_answers.specs.declared.answer.Flaw as code
-use Rattle.go_answers.specs.AnswerView.{flaw_view}
-use Rattle.go_operands.specs.declared.part.Part as code_part
+use Rattle.go_operands.specs.declared.answers.answer.Flaw as code
+use Rattle.go_operands.specs.AnswerView.{flaw_view}
+use Rattle.go_operands.specs.declared.operands.part.Part as code_part
 use Rattle.go_operands.specs.Parts.{part}
-use Rattle.go_given.specs.CallView.{parts_view}
-use Rattle.go_parts.specs.Stacked.{Hears, DoesOne, DoesTwo, DoesSlice, one_part, waiting}
+use Rattle.go_calls.specs.CallView.{parts_view}
+use Rattle.go_expr.specs.Stacked.{Hears, DoesOne, DoesTwo, DoesSlice, one_part, waiting}
 use Rattle.go_expr.specs.Walked.{Walks, WalksBound, op_of}
 
 -- ---- operators before operands

@@ -1,3 +1,5 @@
+pub mod Stacked
 pub mod Ready
 pub mod Walked
 pub mod Typed
+pub mod Raw

@@ -3,9 +3,9 @@ use Rattle.std.specs.Prelude.{◌<◌, ◌^◌, List}
 use Rattle.go_syntax.specs.Tree.{Expr, IntExpr, ParenExpr, UnaryExpr, BinaryExpr, IndexExpr, SliceExpr, CallExpr, MaybeExpr, NoExpr, AnExpr, Exprs, NoExprs, MoreExprs}
 use Rattle.go_typing.specs.Env.{Bind}
 use Rattle.go_typing.specs.Literal.{int_value}
-use Rattle.go_callee.specs.declared.gives.Gives.{Gives}
-use Rattle.go_callee.specs.Called.{name_in}
-use Rattle.go_callee.specs.ResultTypes.{CalleeGiven}
+use Rattle.go_calls.specs.declared.callee.gives.Gives.{Gives}
+use Rattle.go_calls.specs.Called.{name_in}
+use Rattle.go_calls.specs.ResultTypes.{CalleeGiven}
 
 -- ---- own: the numbers that integer literals spell are below 2^127, as the lexical stage has them
 

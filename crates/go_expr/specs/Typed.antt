@@ -15,8 +15,8 @@ use Rattle.go_typing.specs.Wanted.{settled_answer, wanted}
 use Rattle.go_typing.specs.Typing.{place_of, typing, flaws}
 use Rattle.go_typing.specs.Faulty.{IsIn, HasFault}
 use Rattle.go_type.specs.Levels.{tree_of}
-use Rattle.go_expr.specs.declared.typed.Print.{Print}
-use Rattle.go_expr.specs.declared.typed.Typed as code
+use Rattle.go_expr.specs.declared.expr.typed.Print.{Print}
+use Rattle.go_expr.specs.declared.expr.typed.Typed as code
 
 module _ (ns : List NamedTy) where
   -- an untyped number whose type nothing decides has its default type

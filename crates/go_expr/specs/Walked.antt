@@ -10,12 +10,12 @@ use Rattle.go_type.specs.Named.{NamedTy}
 use Rattle.go_typing.specs.Env.{Bind}
 use Rattle.go_typing.specs.Typing as go
 use Rattle.go_typing.specs.Typing.{place_of, typing, bound_part, bound_flaws, all_flaws}
-use Rattle.go_answers.specs.AnswerView.{flaw_view}
-use Rattle.go_answers.specs.declared.answer.Flaw as code
-use Rattle.go_operands.specs.declared.part.Part as code_part
+use Rattle.go_operands.specs.AnswerView.{flaw_view}
+use Rattle.go_operands.specs.declared.answers.answer.Flaw as code
+use Rattle.go_operands.specs.declared.operands.part.Part as code_part
 use Rattle.go_operands.specs.Parts.{part}
-use Rattle.go_given.specs.CallView.{parts_view}
-use Rattle.go_parts.specs.Stacked.{one_part}
+use Rattle.go_calls.specs.CallView.{parts_view}
+use Rattle.go_expr.specs.Stacked.{one_part}
 
 module _ (ts : List Ty) (ns : List NamedTy) (ss : List (List Bind)) where
   -- an expression waits, and its faults are told

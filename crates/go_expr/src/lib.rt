@@ -1,18 +1,10 @@
-//! The typing of expressions: the type, the core node and the constant value of an expression, and all
-//! faults in it.
+//! The typing of expressions: nodes from their parts, and the recursion over the tree.
 //!
-//! The Go Programming Language Specification (as of Go 1.17), "Expressions", "Constants",
-//! "Declarations and scope". The relation stands in go_typing (`specs/Typing.antt`,
-//! `specs/Faulty.antt`); `type_expr` gives exactly what it says.
+//! The Go Programming Language Specification (as of Go 1.17), "Expressions".
 #![tactic(auto)]
 
-pub mod answered;
-pub mod laws;
-pub mod numbers;
-pub mod prefix;
+pub mod expr;
+pub mod parts;
 pub mod typed;
-pub mod typing;
 
-pub use answered::answer_in;
-pub use numbers::numbers_fit;
-pub use typed::{Typed, type_expr};
+pub use expr::{Typed, answer_in, numbers_fit, type_expr};

@@ -10,14 +10,14 @@ ghost use Rattle.go_frames.specs.FrameView.{Comes, token_of, ctx_view, expr_fram
 
 use crate::part::tail;
 use gj_base::{Op, Place};
-use go_begins::expr::operand;
-use go_ends::lost::{lost, lost_name, lost_tree};
-use go_ends::refused::{long_at, stuck_at, stuck_with};
-use go_frames::at::{At, binary_of, level};
-use go_frames::ctx::{Ctx, LONGEST, one_more};
-use go_frames::frame::{ExprFrame, Frame, Value};
-use go_frames::node::{binary, function, function_type, paren, unary};
-use go_frames::stack::{Answer, Stack, goes, open_block, over};
+use go_frames::begins::expr::operand;
+use go_frames::ends::lost::{lost, lost_name, lost_tree};
+use go_frames::ends::refused::{long_at, stuck_at, stuck_with};
+use go_frames::frames::at::{At, binary_of, level};
+use go_frames::frames::ctx::{Ctx, LONGEST, one_more};
+use go_frames::frames::frame::{ExprFrame, Frame, Value};
+use go_frames::frames::node::{binary, function, function_type, paren, unary};
+use go_frames::frames::stack::{Answer, Stack, goes, open_block, over};
 use go_syntax::Operator;
 use go_syntax::tree::{Block, Expr, Name, Prefix, Sig};
 use std::alloc::Global;

@@ -13,18 +13,18 @@ ghost use Rattle.go_frames.specs.FrameView.{untagged_view, field_of, Comes, toke
 
 use crate::sig::open_params;
 use gj_base::{NoMemory, Place, Text};
-use go_begins::types::{begin_type, selected};
-use go_ends::list::{and_field, and_member, and_name, only_name};
-use go_ends::lost::{lost, lost_at};
-use go_ends::lost_part::{lost_field, lost_members};
-use go_ends::refused::{stuck_at, stuck_with};
-use go_frames::at::At;
-use go_frames::form::{embedded_field, embedded_member, method_member, named_field};
-use go_frames::frame::{
+use go_frames::begins::types::{begin_type, selected};
+use go_frames::ends::list::{and_field, and_member, and_name, only_name};
+use go_frames::ends::lost::{lost, lost_at};
+use go_frames::ends::lost_part::{lost_field, lost_members};
+use go_frames::ends::refused::{stuck_at, stuck_with};
+use go_frames::frames::at::At;
+use go_frames::frames::form::{embedded_field, embedded_member, method_member, named_field};
+use go_frames::frames::frame::{
     Embedded, FieldFrame, Frame, InterfacePart, Role, StructPart, Untagged, Value,
 };
-use go_frames::node::{interface_type, name, name_expr, struct_type};
-use go_frames::stack::{Answer, Stack, done, goes};
+use go_frames::frames::node::{interface_type, name, name_expr, struct_type};
+use go_frames::frames::stack::{Answer, Stack, done, goes};
 use go_syntax::Operator;
 use go_syntax::tree::{Expr, Field, Member, Name, Sig};
 use std::alloc::Global;

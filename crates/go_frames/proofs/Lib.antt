@@ -1,4 +1,5 @@
 pub mod OperatorLemmas
 pub mod NumberLemmas
 pub mod StackLemmas
-pub mod ListLemmas
+pub mod FramesListLemmas
+pub mod BeginsListLemmas

@@ -9,62 +9,62 @@ use Rattle.go_syntax.specs.View.{expr_view, elem_view, sig_view, param_view, fie
 use Rattle.go_syntax.specs.declared.tree.Expr.{Expr}
 use Rattle.go_syntax.specs.declared.tree.Stmt.{Stmt}
 use Rattle.go_grammar.specs.Frames as f
-use Rattle.go_frames.specs.declared.at.At.{At}
-use Rattle.go_frames.specs.declared.ctx.Ctx.{Ctx}
-use Rattle.go_frames.specs.declared.frame.Value.{Value}
-use Rattle.go_frames.specs.declared.frame.Value.TheVariants as v
-use Rattle.go_frames.specs.declared.frame.Frame.{Frame}
-use Rattle.go_frames.specs.declared.frame.Frame.TheVariants as of
-use Rattle.go_frames.specs.declared.frame.ExprFrame.{ExprFrame}
-use Rattle.go_frames.specs.declared.frame.ExprFrame.TheVariants as e
-use Rattle.go_frames.specs.declared.frame.Base.{Base}
-use Rattle.go_frames.specs.declared.frame.Braces.{Braces}
-use Rattle.go_frames.specs.declared.frame.PartFrame.{PartFrame}
-use Rattle.go_frames.specs.declared.frame.PartFrame.TheVariants as p
-use Rattle.go_frames.specs.declared.frame.TypeFrame.{TypeFrame}
-use Rattle.go_frames.specs.declared.frame.TypeFrame.TheVariants as y
-use Rattle.go_frames.specs.declared.frame.StructPart.{StructPart}
-use Rattle.go_frames.specs.declared.frame.InterfacePart.{InterfacePart}
-use Rattle.go_frames.specs.declared.frame.Embedded.{Embedded}
-use Rattle.go_frames.specs.declared.frame.FieldFrame.{FieldFrame}
-use Rattle.go_frames.specs.declared.frame.FieldFrame.TheVariants as d
-use Rattle.go_frames.specs.declared.frame.Role.{Role}
-use Rattle.go_frames.specs.declared.frame.Role.TheVariants as role
-use Rattle.go_frames.specs.declared.frame.ParamList.{ParamList}
-use Rattle.go_frames.specs.declared.frame.ParamsPart.{ParamsPart}
-use Rattle.go_frames.specs.declared.frame.SigFrame.{SigFrame}
-use Rattle.go_frames.specs.declared.frame.SigFrame.TheVariants as g
-use Rattle.go_frames.specs.declared.frame.Mode.{Mode}
-use Rattle.go_frames.specs.declared.frame.Mode.TheVariants as mode
-use Rattle.go_frames.specs.declared.frame.Spot.{Spot}
-use Rattle.go_frames.specs.declared.frame.StmtFrame.{StmtFrame}
-use Rattle.go_frames.specs.declared.frame.StmtFrame.TheVariants as s
-use Rattle.go_frames.specs.declared.frame.IfPart.{IfPart}
-use Rattle.go_frames.specs.declared.frame.ForPart.{ForPart}
-use Rattle.go_frames.specs.declared.frame.ControlFrame.{ControlFrame}
-use Rattle.go_frames.specs.declared.frame.ControlFrame.TheVariants as c
-use Rattle.go_frames.specs.declared.frame.Subject.{Subject}
-use Rattle.go_frames.specs.declared.frame.Subject.TheVariants as on
-use Rattle.go_frames.specs.declared.frame.SwitchPart.{SwitchPart}
-use Rattle.go_frames.specs.declared.frame.SelectPart.{SelectPart}
-use Rattle.go_frames.specs.declared.frame.SwitchFrame.{SwitchFrame}
-use Rattle.go_frames.specs.declared.frame.SwitchFrame.TheVariants as w
-use Rattle.go_frames.specs.declared.frame.ValuesPart.{ValuesPart}
-use Rattle.go_frames.specs.declared.frame.TypesPart.{TypesPart}
-use Rattle.go_frames.specs.declared.frame.DeclFrame.{DeclFrame}
-use Rattle.go_frames.specs.declared.frame.DeclFrame.TheVariants as l
-use Rattle.go_frames.specs.declared.frame.FilePart.{FilePart}
-use Rattle.go_frames.specs.declared.frame.FileFrame.{FileFrame}
-use Rattle.go_frames.specs.declared.frame.FileFrame.TheVariants as i
-use Rattle.go_frames.specs.declared.frame.Untagged.{Untagged}
-use Rattle.go_frames.specs.declared.frame.Untagged.TheVariants as un
+use Rattle.go_frames.specs.declared.frames.at.At.{At}
+use Rattle.go_frames.specs.declared.frames.ctx.Ctx.{Ctx}
+use Rattle.go_frames.specs.declared.frames.frame.Value.{Value}
+use Rattle.go_frames.specs.declared.frames.frame.Value.TheVariants as v
+use Rattle.go_frames.specs.declared.frames.frame.Frame.{Frame}
+use Rattle.go_frames.specs.declared.frames.frame.Frame.TheVariants as of
+use Rattle.go_frames.specs.declared.frames.frame.ExprFrame.{ExprFrame}
+use Rattle.go_frames.specs.declared.frames.frame.ExprFrame.TheVariants as e
+use Rattle.go_frames.specs.declared.frames.frame.Base.{Base}
+use Rattle.go_frames.specs.declared.frames.frame.Braces.{Braces}
+use Rattle.go_frames.specs.declared.frames.frame.PartFrame.{PartFrame}
+use Rattle.go_frames.specs.declared.frames.frame.PartFrame.TheVariants as p
+use Rattle.go_frames.specs.declared.frames.frame.TypeFrame.{TypeFrame}
+use Rattle.go_frames.specs.declared.frames.frame.TypeFrame.TheVariants as y
+use Rattle.go_frames.specs.declared.frames.frame.StructPart.{StructPart}
+use Rattle.go_frames.specs.declared.frames.frame.InterfacePart.{InterfacePart}
+use Rattle.go_frames.specs.declared.frames.frame.Embedded.{Embedded}
+use Rattle.go_frames.specs.declared.frames.frame.FieldFrame.{FieldFrame}
+use Rattle.go_frames.specs.declared.frames.frame.FieldFrame.TheVariants as d
+use Rattle.go_frames.specs.declared.frames.frame.Role.{Role}
+use Rattle.go_frames.specs.declared.frames.frame.Role.TheVariants as role
+use Rattle.go_frames.specs.declared.frames.frame.ParamList.{ParamList}
+use Rattle.go_frames.specs.declared.frames.frame.ParamsPart.{ParamsPart}
+use Rattle.go_frames.specs.declared.frames.frame.SigFrame.{SigFrame}
+use Rattle.go_frames.specs.declared.frames.frame.SigFrame.TheVariants as g
+use Rattle.go_frames.specs.declared.frames.frame.Mode.{Mode}
+use Rattle.go_frames.specs.declared.frames.frame.Mode.TheVariants as mode
+use Rattle.go_frames.specs.declared.frames.frame.Spot.{Spot}
+use Rattle.go_frames.specs.declared.frames.frame.StmtFrame.{StmtFrame}
+use Rattle.go_frames.specs.declared.frames.frame.StmtFrame.TheVariants as s
+use Rattle.go_frames.specs.declared.frames.frame.IfPart.{IfPart}
+use Rattle.go_frames.specs.declared.frames.frame.ForPart.{ForPart}
+use Rattle.go_frames.specs.declared.frames.frame.ControlFrame.{ControlFrame}
+use Rattle.go_frames.specs.declared.frames.frame.ControlFrame.TheVariants as c
+use Rattle.go_frames.specs.declared.frames.frame.Subject.{Subject}
+use Rattle.go_frames.specs.declared.frames.frame.Subject.TheVariants as on
+use Rattle.go_frames.specs.declared.frames.frame.SwitchPart.{SwitchPart}
+use Rattle.go_frames.specs.declared.frames.frame.SelectPart.{SelectPart}
+use Rattle.go_frames.specs.declared.frames.frame.SwitchFrame.{SwitchFrame}
+use Rattle.go_frames.specs.declared.frames.frame.SwitchFrame.TheVariants as w
+use Rattle.go_frames.specs.declared.frames.frame.ValuesPart.{ValuesPart}
+use Rattle.go_frames.specs.declared.frames.frame.TypesPart.{TypesPart}
+use Rattle.go_frames.specs.declared.frames.frame.DeclFrame.{DeclFrame}
+use Rattle.go_frames.specs.declared.frames.frame.DeclFrame.TheVariants as l
+use Rattle.go_frames.specs.declared.frames.frame.FilePart.{FilePart}
+use Rattle.go_frames.specs.declared.frames.frame.FileFrame.{FileFrame}
+use Rattle.go_frames.specs.declared.frames.frame.FileFrame.TheVariants as i
+use Rattle.go_frames.specs.declared.frames.frame.Untagged.{Untagged}
+use Rattle.go_frames.specs.declared.frames.frame.Untagged.TheVariants as un
 use Rattle.go_syntax.specs.declared.operator.Operator.TheVariants as o
 use Rattle.go_grammar.specs.Classes.{prefix_op}
 use Rattle.go_grammar.specs.ExprSteps as steps
 use Rattle.go_grammar.specs.ExprSteps.{if_op, if_room, then_expr, operand_op}
-use Rattle.go_frames.specs.declared.stack.Stack.{Stack}
-use Rattle.go_frames.specs.declared.stack.Flow.{Flow}
-use Rattle.go_frames.specs.declared.stack.Flow.TheVariants as flow
+use Rattle.go_frames.specs.declared.frames.stack.Stack.{Stack}
+use Rattle.go_frames.specs.declared.frames.stack.Flow.{Flow}
+use Rattle.go_frames.specs.declared.frames.stack.Flow.TheVariants as flow
 
 -- the token at hand, with its text
 abbrev pub token_of : At → List ℕ → Token

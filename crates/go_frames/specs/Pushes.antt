@@ -1,6 +1,6 @@
 -- A frame put on top of others.
 use Rattle.std.specs.Prelude.{◌≡◌, List, [], ◌∷◌, ◌++◌}
-use Rattle.go_frames.specs.declared.frame.Frame.{Frame}
+use Rattle.go_frames.specs.declared.frames.frame.Frame.{Frame}
 use Rattle.go_grammar.specs.Frames as f
 use Rattle.go_frames.specs.FrameView.{frame_view, put_on}
 

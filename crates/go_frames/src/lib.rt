@@ -1,13 +1,9 @@
-//! The frames of the Go parser, the trees that they make, and the words of a step.
+//! What of a file waits for a tree while it is parsed, how productions begin, and how they end.
 //!
-//! The parser goes over the tokens once, with a stack of frames. The top frame stands at the next
-//! token; a frame below waits for the tree that the frame above it makes. `specs/FrameView.antt` says
-//! which frame of the grammar's machine each of them stands for.
+//! The Go Programming Language Specification (as of Go 1.17), "Source file organization",
+//! "Statements", "Expressions".
 #![tactic(auto)]
 
-pub mod at;
-pub mod ctx;
-pub mod form;
-pub mod frame;
-pub mod node;
-pub mod stack;
+pub mod begins;
+pub mod ends;
+pub mod frames;

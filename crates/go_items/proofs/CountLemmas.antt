@@ -1,7 +1,7 @@
 -- How many functions stand in lists of declarations.
 use Rattle.std.proofs.Common.{arith, ◌≡◌, ◌+◌, List, [], ◌∷◌, ◌++◌}
 use Rattle.go_syntax.specs.Tree as tree
-use Rattle.go_packages.specs.Checked.{count_functions}
+use Rattle.go_typing.specs.Checked.{count_functions}
 
 pub count_more : (d : tree.Decl) (ds : List tree.Decl) → count_functions (d ∷ ds) ≡ count_functions (d ∷ []) + count_functions ds
 count_more (tree.ConstDecl at vs) ds = omega arith

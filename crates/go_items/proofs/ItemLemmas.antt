@@ -6,8 +6,8 @@ use Rattle.go_syntax.specs.View.{expr_view, exprs_of, value_spec_view, maybe_exp
 use Rattle.go_syntax.specs.declared.tree.Expr.{Expr}
 use Rattle.go_syntax.specs.declared.tree.Name.{Name}
 use Rattle.go_syntax.specs.declared.tree.ValueSpec.{ValueSpec, out-ValueSpec, fold_out-ValueSpec}
-use Rattle.go_statements.specs.Declare.{names_count}
-use Rattle.go_packages.specs.Items.{each_name, spec_items, constant_items}
+use Rattle.go_typing.specs.Declare.{names_count}
+use Rattle.go_typing.specs.Items.{each_name, spec_items, constant_items}
 use Rattle.go_items.specs.ItemView.{names_in}
 
 -- ---- a specification of values

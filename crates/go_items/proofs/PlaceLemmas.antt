@@ -15,7 +15,7 @@ use Rattle.go_syntax.specs.declared.tree.Params.{Params}
 use Rattle.go_syntax.specs.declared.tree.Sig.{Sig}
 use Rattle.go_syntax.specs.declared.tree.TypeSpec.{TypeSpec}
 use Rattle.go_syntax.specs.declared.tree.ValueSpec.{ValueSpec}
-use Rattle.go_packages.specs.Checked.{function_at}
+use Rattle.go_typing.specs.Checked.{function_at}
 use Rattle.go_items.specs.PlaceSearch.{own_place}
 
 is_zero : (n : ℕ) → n ≡ 0 → (n == 0) ≡ true

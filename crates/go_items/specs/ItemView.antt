@@ -1,4 +1,4 @@
--- What the declarations of the code stand for: the items of go_packages.
+-- What the declarations of the code stand for: the items of go_typing.
 use Rattle.std.specs.Prelude.{List, [], ◌∷◌, ◌++◌, Option, Some, None, map, option_map}
 use Rattle.std.specs.Borrow.{Bor}
 use Rattle.go_syntax.specs.Tree as t
@@ -6,9 +6,9 @@ use Rattle.go_syntax.specs.View.{expr_view, exprs_of, maybe_expr, sig_view}
 use Rattle.go_syntax.specs.declared.tree.Expr.{Expr}
 use Rattle.go_syntax.specs.declared.tree.Name.{Name}
 use Rattle.go_syntax.specs.declared.tree.ValueSpec.{ValueSpec, out-ValueSpec}
-use Rattle.go_packages.specs.Items as go
-use Rattle.go_items.specs.declared.item.Item.{Item}
-use Rattle.go_items.specs.declared.item.Item.TheVariants as item
+use Rattle.go_typing.specs.Items as go
+use Rattle.go_items.specs.declared.items.item.Item.{Item}
+use Rattle.go_items.specs.declared.items.item.Item.TheVariants as item
 
 -- the names of a specification; its type and its values, if there is one
 abbrev pub names_in : ValueSpec → List Name

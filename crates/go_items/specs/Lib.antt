@@ -2,3 +2,9 @@ pub mod ItemView
 pub mod ParamView
 pub mod MainSearch
 pub mod PlaceSearch
+pub mod Called
+pub mod Leads
+pub mod Stated
+pub mod Stands
+pub mod Steps
+pub mod Shown

@@ -1,9 +1,9 @@
 -- Own: a search for `main` that goes from file to file.
 use Rattle.std.specs.Prelude.{ℕ, List}
 use Rattle.go_syntax.specs.Tree as t
-use Rattle.go_packages.specs.Checked.{main_from}
-use Rattle.go_items.specs.declared.count.Search.{Search}
-use Rattle.go_items.specs.declared.count.Search.TheVariants.{Found, From}
+use Rattle.go_typing.specs.Checked.{main_from}
+use Rattle.go_items.specs.declared.items.count.Search.{Search}
+use Rattle.go_items.specs.declared.items.count.Search.TheVariants.{Found, From}
 
 -- the number of `main`, with these declarations left
 abbrev pub main_after : Search → List t.Decl → ℕ

@@ -1,13 +1,13 @@
--- What the parameters of the code stand for: those of go_packages.
+-- What the parameters of the code stand for: those of go_typing.
 use Rattle.std.specs.Prelude.{Option, Some, None, option_map}
 use Rattle.std.specs.Borrow.{Bor}
 use Rattle.go_syntax.specs.Tree as t
 use Rattle.go_syntax.specs.View.{expr_view}
 use Rattle.go_syntax.specs.declared.tree.Name.{Name}
 use Rattle.go_syntax.specs.declared.tree.Param.{Param, out-Param}
-use Rattle.go_packages.specs.Signature as go
-use Rattle.go_items.specs.declared.param.Named.{Named}
-use Rattle.go_items.specs.declared.param.Grouped.{Grouped}
+use Rattle.go_typing.specs.Signature as go
+use Rattle.go_items.specs.declared.items.param.Named.{Named}
+use Rattle.go_items.specs.declared.items.param.Grouped.{Grouped}
 
 abbrev pub named_view : Named → Name
 named_view n = record { place = n.place; text = n.text.now }

@@ -3,9 +3,9 @@ use Rattle.std.specs.Prelude.{List, Option, Some, None}
 use Rattle.gj_base.specs.declared.place.Place.{Place}
 use Rattle.go_syntax.specs.Tree as t
 use Rattle.go_syntax.specs.declared.tree.Params.{Params}
-use Rattle.go_packages.specs.Checked.{function_at}
-use Rattle.go_items.specs.declared.count.Counting.{Counting}
-use Rattle.go_items.specs.declared.count.Counting.TheVariants.{Passed, Left}
+use Rattle.go_typing.specs.Checked.{function_at}
+use Rattle.go_items.specs.declared.items.count.Counting.{Counting}
+use Rattle.go_items.specs.declared.items.count.Counting.TheVariants.{Passed, Left}
 
 -- where a function stands, if it may have a core: it has no receiver
 abbrev pub own_place : Option Params → Place → Option Place

@@ -1,15 +1,13 @@
-//! What the files of a package declare, in the order of the files and of their texts.
+//! What the files of a package declare, what needs itself, where the check of a package begins, and
+//! which fault is the least.
 //!
-//! The Go Programming Language Specification (as of Go 1.17), "Declarations and scope", "Constant
-//! declarations", "Iota", "Type declarations", "Function types". The definitions stand in go_packages
-//! (`specs/Items.antt`, `specs/Signature.antt`, `specs/Checked.antt`).
+//! The Go Programming Language Specification (as of Go 1.17), "Packages", "Declarations and scope".
 #![tactic(auto)]
 
-pub mod constant;
-pub mod count;
-pub mod item;
+pub mod binds;
+pub mod first;
+pub mod hidden;
 pub mod items;
-pub mod param;
-
-pub use item::Item;
-pub use items::items_of;
+pub mod least;
+pub mod needed;
+pub mod needs;

@@ -9,10 +9,10 @@ use Rattle.go_type.specs.Tree.{no_tys}
 use Rattle.go_core.specs.CoreTree as core
 use Rattle.go_typing.specs.Env.{universe, function}
 use Rattle.go_typing.specs.Uses.{names_in}
-use Rattle.go_statements.specs.Walk.{Walk, Around, Did, did, after, and_then, body, places_of}
-use Rattle.go_statements.specs.Labels.{labels_in_all, branches_in_all}
-use Rattle.go_statements.specs.Statements.{stmt, stmts, unlabeled}
-use Rattle.go_packages.specs.Known.{first_names}
+use Rattle.go_typing.specs.Walk.{Walk, Around, Did, did, after, and_then, body, places_of}
+use Rattle.go_typing.specs.Labels.{labels_in_all, branches_in_all}
+use Rattle.go_typing.specs.Statements.{stmt, stmts, unlabeled}
+use Rattle.go_typing.specs.Known.{first_names}
 use Rattle.gj_plain.specs.Plain.{is_empty, printed_text, with_text, texts_of}
 use Rattle.js_prints.specs.Lines.{print_line, print_lines}
 use Rattle.js_prints.specs.Prints.{is_text, all_print}

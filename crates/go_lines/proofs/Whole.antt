@@ -6,10 +6,10 @@ use Rattle.go_syntax.specs.Tree as t
 use Rattle.go_syntax.specs.declared.tree.Name.{Name}
 use Rattle.go_type.specs.Tree.{no_tys}
 use Rattle.go_typing.specs.Answer.{Flaw}
-use Rattle.go_statements.specs.Walk.{Around, Did, body, unused}
-use Rattle.go_statements.specs.Labels.{labels_in_all, branches_in_all, label_flaws}
-use Rattle.go_statements.specs.Statements.{stmts, where_whole, flaw_places}
-use Rattle.go_packages.specs.Checked.{told, or_generated, program_of}
+use Rattle.go_typing.specs.Walk.{Around, Did, body, unused}
+use Rattle.go_typing.specs.Labels.{labels_in_all, branches_in_all, label_flaws}
+use Rattle.go_typing.specs.Statements.{stmts, where_whole, flaw_places}
+use Rattle.go_typing.specs.Checked.{told, or_generated, program_of}
 use Rattle.gj_plain.specs.Plain.{Main, is_bare, texts_of, main_in}
 use Rattle.js_prints.specs.Lines.{print_lines}
 use Rattle.js_prints.specs.Prints.{all_print, only_prints}

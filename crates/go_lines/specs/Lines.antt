@@ -5,7 +5,7 @@ use Rattle.go_type.specs.Tree.{no_tys}
 use Rattle.go_core.specs.CoreTree.{CoreFunc, CoreProgram}
 use Rattle.js_prints.specs.Lines.{print_lines}
 use Rattle.js_prints.specs.Prints.{only_prints}
-use Rattle.go_packages.specs.Checked.{told, program_of}
+use Rattle.go_typing.specs.Checked.{told, program_of}
 use Rattle.gj_plain.specs.Plain.{Main, main_in}
 
 -- the program's `main` prints these texts

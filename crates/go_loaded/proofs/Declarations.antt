@@ -3,7 +3,7 @@ use Rattle.std.proofs.Common.{Bool, List}
 use Rattle.go_syntax.specs.Tree as t
 use Rattle.go_syntax.specs.Token.{Token}
 use Rattle.go_grammar.specs.Grammar.{AreExprs, one_expr, more_exprs, IsDecl, const_decl, const_group, type_decl, type_group, var_decl, var_group, IsConst, repeated_const, untyped_const, typed_const, IsVar, unset_var, untyped_var, typed_var, IsTypeSpec, type_spec, AreConsts, no_consts, last_const, more_consts, AreVars, no_vars, last_var, more_vars, AreTypeSpecs, no_type_specs, last_type_spec, more_type_specs}
-use Rattle.go_programs.specs.Grammar.{ValuesOfGrammar, IsTypedOrValued, VarsOfGrammar, TypesOfGrammar, DeclOfGrammar}
+use Rattle.go_sound.specs.Grammar.{ValuesOfGrammar, IsTypedOrValued, VarsOfGrammar, TypesOfGrammar, DeclOfGrammar}
 use Rattle.go_loaded.proofs.Operators.{type_operators, all_operators}
 
 -- ---- constants

@@ -6,7 +6,7 @@ use Rattle.go_grammar.specs.Files.{IsTop, top_decl, function_decl, method_decl, 
 use Rattle.go_load.specs.Readings.{AreTrees}
 use Rattle.go_load.specs.declared.sources.FileEntry.{FileEntry}
 use Rattle.go_items.specs.ItemView.{decls_of}
-use Rattle.go_programs.specs.Grammar.{DeclOfGrammar, DeclsOfGrammar}
+use Rattle.go_sound.specs.Grammar.{DeclOfGrammar, DeclsOfGrammar}
 use Rattle.go_loaded.specs.Loaded.{FilesAreOfGrammar}
 use Rattle.go_loaded.proofs.Signatures.{params_derived, sig_derived}
 use Rattle.go_loaded.proofs.Declarations.{decl_derived}

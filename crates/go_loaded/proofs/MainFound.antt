@@ -6,7 +6,7 @@ use Rattle.go_syntax.specs.Tree as t
 use Rattle.go_load.specs.Readings.{Reading, Long, Unlexed, Unparsed, Parsed, trees_of}
 use Rattle.go_load.specs.Faults.{lexical_faults, syntax_faults, fault_where, first_package, faults_of, faults_from, is_main, may_have_main, main_faults, load_faults, first_of, stage_faults}
 use Rattle.go_items.specs.ItemView.{decls_of}
-use Rattle.go_programs.specs.SoundPrograms.{HasMain}
+use Rattle.go_sound.specs.SoundPrograms.{HasMain}
 
 -- ---- no faults
 

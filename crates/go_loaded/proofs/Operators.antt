@@ -10,7 +10,7 @@ use Rattle.go_grammar.specs.Classes.{binary_op, assign_op, IsBinary, IsAssign}
 use Rattle.go_grammar.specs.Grammar.{IsTypeName, plain_name, package_name, IsType, type_name, type_parens, pointer_type, receive_type, function_type, begun_type, IsBegunType, slice_type, array_type, counted_array_type, map_type, chan_type, send_type, struct_type, interface_type}
 use Rattle.go_grammar.specs.Grammar.{IsExpr, binary, tighter, unary, IsUnary, operator_before, receive_channel, primary, IsPrimary, operand, select, assert, index, slice, full_slice, call_of_none, call, literal, IsOperand, int, rune, string, name, parens, function, function_type_operand, type_operand, PerhapsExpr, without_expr, with_expr, AreExprs, one_expr, more_exprs}
 use Rattle.go_sound.specs.SoundTyped.{is_binary, HasOperators, BoundHasOperators, AllHaveOperators}
-use Rattle.go_programs.specs.Grammar.{OpOfGrammar}
+use Rattle.go_sound.specs.Grammar.{OpOfGrammar}
 
 -- ---- operators
 

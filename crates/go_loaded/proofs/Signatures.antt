@@ -6,7 +6,7 @@ use Rattle.go_syntax.specs.Token.{Token}
 use Rattle.go_syntax.specs.declared.tree.Name.{Name}
 use Rattle.go_grammar.specs.Grammar.{IsSig, without_results, with_result, with_results, AreParams, params_in_parens, AreParamsInside, no_params, last_param, more_params, IsParam, param_type, named_param}
 use Rattle.go_sound.specs.SoundTyped.{HasOperators}
-use Rattle.go_programs.specs.Grammar.{ParamsOfGrammar, SigOfGrammar}
+use Rattle.go_sound.specs.Grammar.{ParamsOfGrammar, SigOfGrammar}
 use Rattle.go_loaded.proofs.Operators.{type_operators}
 
 param_operators : {ts : List Token} {x : Option Name} {variadic : Bool} {e : t.Expr} → IsParam ts x variadic e → HasOperators e

@@ -8,8 +8,8 @@ use Rattle.go_grammar.specs.Grammar.{IsSimple, exprs_stmt, assign, op_assign, de
 use Rattle.go_grammar.specs.Grammar.{IsBlock, block_braces, AreStmts, no_stmts, last_stmt, missing_stmt, more_stmts, IsStmt, declaration, simple, label, label_of_none, block, go_expr, defer_expr, return_none, return_exprs, break_stmt, continue_stmt, fallthrough_stmt, if_stmt, for_stmt, switch_stmt, select_stmt}
 use Rattle.go_grammar.specs.Grammar.{IsIf, without_else, with_else, IsElse, else_if, else_block, IsFor, for_condition, for_clauses, for_range, for_range_assign, for_range_define, IsSwitch, expr_switch, type_switch, AreClauses, no_clauses, case_clause, default_clause, AreComms, no_comms, case_comm, default_comm}
 use Rattle.go_sound.specs.SoundTyped.{HasOperators, BoundHasOperators}
-use Rattle.go_programs.specs.Grammar as of
-use Rattle.go_programs.specs.Grammar.{StmtOfGrammar, MaybeOfGrammar, BlockOfGrammar, StmtsOfGrammar, ClausesOfGrammar, CommsOfGrammar}
+use Rattle.go_sound.specs.Grammar as of
+use Rattle.go_sound.specs.Grammar.{StmtOfGrammar, MaybeOfGrammar, BlockOfGrammar, StmtsOfGrammar, ClausesOfGrammar, CommsOfGrammar}
 use Rattle.go_loaded.proofs.Operators.{assign_operator, expr_operators, all_operators}
 use Rattle.go_loaded.proofs.Declarations.{decl_derived}
 

@@ -3,8 +3,8 @@ use Rattle.std.proofs.Common.{ℕ, List, sym, subst}
 use Rattle.go_load.specs.Readings.{trees_of}
 use Rattle.go_load.specs.Packages.{PackageTree}
 use Rattle.go_items.specs.ItemView.{decls_of}
-use Rattle.go_programs.specs.Grammar.{DeclsOfGrammar}
-use Rattle.go_programs.specs.SoundPrograms.{HasMain}
+use Rattle.go_sound.specs.Grammar.{DeclsOfGrammar}
+use Rattle.go_sound.specs.SoundPrograms.{HasMain}
 use Rattle.go_stmt.specs.Checks.{root_trees}
 use Rattle.go_loaded.specs.Loaded.{FilesAreOfGrammar, LoadedAreOfGrammar, LoadedHaveMain}
 use Rattle.go_loaded.proofs.Files.{trees_derived}

@@ -8,10 +8,10 @@ use Rattle.go_load.specs.Packages.{paths_view}
 use Rattle.go_load.specs.Load.{ArePackages}
 use Rattle.go_load.specs.declared.packages.Packages.{Packages}
 use Rattle.go_core.specs.SoundProgram.{Sound}
-use Rattle.go_packages.specs.Checked.{told, program_of}
+use Rattle.go_typing.specs.Checked.{told, program_of}
 use Rattle.go_items.specs.ItemView.{decls_of}
-use Rattle.go_programs.specs.Grammar.{DeclsOfGrammar}
-use Rattle.go_programs.specs.SoundPrograms.{HasMain}
+use Rattle.go_sound.specs.Grammar.{DeclsOfGrammar}
+use Rattle.go_sound.specs.SoundPrograms.{HasMain}
 use Rattle.go_stmt.specs.Checks.{root_trees}
 
 -- what the grammar derives keeps what its trees keep

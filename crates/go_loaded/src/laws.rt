@@ -2,7 +2,7 @@
 
 ghost use Rattle.go_loaded.specs.Loaded.{FilesAreOfGrammar, LoadedAreOfGrammar, LoadedAreSound, LoadedHaveMain};
 
-use go_programs::laws::programs;
+use go_sound::programs::laws::programs;
 
 /// Whatever tree of a file the grammar derives, its declarations are ones that the grammar gives:
 /// between operands stand its operators, after a turn of a loop stands a simple statement, and a

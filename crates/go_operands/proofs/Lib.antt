@@ -1,2 +1,17 @@
+pub mod SameTypeLemmas
+pub mod TableLemmas
+pub mod Views
+pub mod HeldLemmas
+pub mod ViewLemmas
+pub mod WithinLemmas
+pub mod ReadyLemmas
+pub mod UniverseLemmas
+pub mod EnvLemmas
+pub mod LiteralLemmas
+pub mod AnswerLemmas
+pub mod OriginLemmas
+pub mod FlawLemmas
+pub mod Numbers
+pub mod TableBegins
 pub mod Known
 pub mod SignLemmas

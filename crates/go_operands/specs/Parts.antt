@@ -3,9 +3,9 @@ use Rattle.std.specs.Prelude.{ℕ, List}
 use Rattle.gj_base.specs.declared.place.Place.{Place}
 use Rattle.go_type.specs.Tree.{Ty}
 use Rattle.go_typing.specs.Answer.{Answer, Part}
-use Rattle.go_answers.specs.AnswerView.{answer_view}
-use Rattle.go_answers.specs.Below.{AnswerBelow}
-use Rattle.go_operands.specs.declared.part.Part as code
+use Rattle.go_operands.specs.AnswerView.{answer_view}
+use Rattle.go_operands.specs.Below.{AnswerBelow}
+use Rattle.go_operands.specs.declared.operands.part.Part as code
 
 abbrev pub part : Place → Answer → Part
 part at a = record { place = at; answer = a }

@@ -1,13 +1,12 @@
-//! Operands: the single value of a node, operators before it, and parts where a value or a type is
-//! wanted.
+//! Operands: rules on types and constants, the scopes in which names stand, nodes of the core, and
+//! what the typing of a node answers.
 //!
-//! The Go Programming Language Specification (as of Go 1.17), "Operators" and its parts,
-//! "Assignability", "Types". The rows stand in go_typing, as `single`, `unary_row`, `wanted`,
-//! `wanted_alone` and `wanted_type`; each function here gives what its row gives.
+//! The Go Programming Language Specification (as of Go 1.17), "Operands", "Declarations and scope",
+//! "Constants", "Types".
 #![tactic(auto)]
 
-pub mod boxes;
-pub mod operand;
-pub mod part;
-pub mod prefix;
-pub mod wanted;
+pub mod answers;
+pub mod nodes;
+pub mod operands;
+pub mod rules;
+pub mod scopes;

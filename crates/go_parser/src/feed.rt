@@ -12,19 +12,19 @@ use go_control_steps::control::{
 use go_control_steps::switch::{
     switch_meets_expr, switch_meets_guard, switch_meets_stmt, switch_row,
 };
-use go_ends::file::{stuck_below, unnamed};
-use go_ends::refused::stuck_with;
+use go_frames::ends::file::{stuck_below, unnamed};
+use go_frames::ends::refused::stuck_with;
 use go_expr_steps::expr::{body_meets, chain_meets, expr_meets, expr_row, func_meets, guard_meets};
 use go_expr_steps::part::{part_meets, part_row};
 use go_expr_steps::types::{type_meets, type_row, type_sig_meets};
 use go_field_steps::field::{field_meets, field_row, method_meets};
 use go_field_steps::sig::{sig_meets, sig_row};
-use go_frames::at::At;
-use go_frames::frame::{Frame, Value};
-use go_frames::stack::{Answer, Flow, Stack, over};
-use go_simple_steps::decl::{decl_meets_expr, decl_row};
-use go_simple_steps::simple::guard_in_simple;
-use go_stmt_steps::stmt::{
+use go_frames::frames::at::At;
+use go_frames::frames::frame::{Frame, Value};
+use go_frames::frames::stack::{Answer, Flow, Stack, over};
+use go_stmt_steps::simple_steps::decl::{decl_meets_expr, decl_row};
+use go_stmt_steps::simple_steps::simple::guard_in_simple;
+use go_stmt_steps::stmt_steps::stmt::{
     stmt_meets_block, stmt_meets_decl, stmt_meets_expr, stmt_meets_stmt, stmt_row,
 };
 use go_syntax::tree::{Block, Decl, Expr, Name, Sig, Stmt};

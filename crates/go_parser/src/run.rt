@@ -11,10 +11,10 @@ ghost use Rattle.go_frames.specs.FrameView.{frame_view, stack_view, token_of};
 
 use crate::feed::feed;
 use gj_base::{Fault, NoMemory, Place, Refusal, Text};
-use go_ends::file::{alone, cut_off, untaken};
-use go_frames::at::At;
-use go_frames::frame::{FileFrame, Frame};
-use go_frames::stack::{Flow, Stack};
+use go_frames::ends::file::{alone, cut_off, untaken};
+use go_frames::frames::at::At;
+use go_frames::frames::frame::{FileFrame, Frame};
+use go_frames::frames::stack::{Flow, Stack};
 use go_grammar::laws::{reads_all_files, reads_only_files};
 use go_syntax::tree::File;
 use go_syntax::{TokenKind, Tokens};

@@ -11,7 +11,7 @@ use Rattle.go_typing.specs.Call.{is_built}
 use Rattle.go_typing.specs.Typing.{Callee, a_function, a_built_in, by_value, callee_of, place_of, typing, flaws, bound_flaws, all_flaws, where_true, is_built_prefix, call_flaws}
 use Rattle.go_typing.specs.Faulty.{InCall, IsBound, IsOneOf, IsPart}
 use Rattle.go_typing.proofs.Around.{none_around}
-use Rattle.go_statements.specs.Expressions.{type_of}
+use Rattle.go_typing.specs.Expressions.{type_of}
 
 own_known : (a : Answer) → is_known a ≡ true → own a ≡ []
 own_known (wrong f fs) h = let e : false ≡ true = h in cc

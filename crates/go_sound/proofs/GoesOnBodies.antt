@@ -13,17 +13,17 @@ use Rattle.go_core.specs.SoundProgram.{func_vars, all_vars, DifferInId}
 use Rattle.go_typing.specs.Env.{unknown}
 use Rattle.go_typing.specs.Answer.{Answer, value, does, wrong, untyped_part}
 use Rattle.go_typing.specs.Typing.{Callee, a_function, a_built_in, by_value, place_of}
-use Rattle.go_statements.specs.Walk.{Walk, Around, Did, pushed, within, with_name, is_there, fresh, uses, uses_all}
-use Rattle.go_statements.specs.Expressions.{answer_in}
-use Rattle.go_statements.specs.Assign.{first_right, several_right, same_number, define, fresh_uses}
-use Rattle.go_statements.specs.Declare.{SpecType, lost_type, spec_type, type_uses, declare_one, var_each, zero_type, var_zero, spec_or, var_types, names_count, names_number, var_call, var_by, var_values, var_spec, var_specs, counting, constant_value, declare_constant, const_each, const_unknown, const_spec, const_specs, is_bare, new_named, declare_type, type_spec, type_specs, decl}
-use Rattle.go_statements.specs.Labels.{label_of}
-use Rattle.go_statements.specs.Statements.{performed, called_in, expression, if_did, condition_uses, for_did, next_label, unlabeled, with_target, post_did, Clauses, one_clause, switch_did, is_empty, returned_call, returned_by, returned_to, returned_in, branch_did, branch, innermost, target_named, falls, is_last, is_default, case_tests, Tests, count_types, stmt, maybe, block, stmts, clause_stmts, clauses, with_labels, function_body, spared}
-use Rattle.go_packages.specs.Signature.{Param, bound, bound_name, all_bound, inside, params_of, results_of, type_of_param, sig_types}
-use Rattle.go_packages.specs.Items.{is_init}
-use Rattle.go_packages.specs.Known.{outside}
-use Rattle.go_packages.specs.Functions.{Between, at_start, around_body, body_of, after_body, function_then, functions_from}
-use Rattle.go_packages.specs.Checked.{known_in, between_of, first_too_far, functions_in, error_function, runtime_function, program_of}
+use Rattle.go_typing.specs.Walk.{Walk, Around, Did, pushed, within, with_name, is_there, fresh, uses, uses_all}
+use Rattle.go_typing.specs.Expressions.{answer_in}
+use Rattle.go_typing.specs.Assign.{first_right, several_right, same_number, define, fresh_uses}
+use Rattle.go_typing.specs.Declare.{SpecType, lost_type, spec_type, type_uses, declare_one, var_each, zero_type, var_zero, spec_or, var_types, names_count, names_number, var_call, var_by, var_values, var_spec, var_specs, counting, constant_value, declare_constant, const_each, const_unknown, const_spec, const_specs, is_bare, new_named, declare_type, type_spec, type_specs, decl}
+use Rattle.go_typing.specs.Labels.{label_of}
+use Rattle.go_typing.specs.Statements.{performed, called_in, expression, if_did, condition_uses, for_did, next_label, unlabeled, with_target, post_did, Clauses, one_clause, switch_did, is_empty, returned_call, returned_by, returned_to, returned_in, branch_did, branch, innermost, target_named, falls, is_last, is_default, case_tests, Tests, count_types, stmt, maybe, block, stmts, clause_stmts, clauses, with_labels, function_body, spared}
+use Rattle.go_typing.specs.Signature.{Param, bound, bound_name, all_bound, inside, params_of, results_of, type_of_param, sig_types}
+use Rattle.go_typing.specs.Items.{is_init}
+use Rattle.go_typing.specs.Known.{outside}
+use Rattle.go_typing.specs.Functions.{Between, at_start, around_body, body_of, after_body, function_then, functions_from}
+use Rattle.go_typing.specs.Checked.{known_in, between_of, first_too_far, functions_in, error_function, runtime_function, program_of}
 use Rattle.go_sound.specs.GoesOn.{AreNumbered, GoesOn, StatementsGoOn, BlocksLeaveScopes, VariablesDiffer}
 use Rattle.go_sound.proofs.GoesOnSteps.{stays, then_on, did_if, named_on, fresh_on, used_on, uses_on, uses_all_on, and_on, scopes_left, within_on, assign_on, update_on, step_on, new_on, define_on, one_after, fresh_sides_on}
 

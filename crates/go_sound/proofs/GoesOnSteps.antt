@@ -11,8 +11,8 @@ use Rattle.go_typing.specs.Env.{Decl, Bind, is_blank}
 use Rattle.go_typing.specs.Answer.{Flaw, Part}
 use Rattle.go_typing.specs.Scopes.{last_changed, without_last}
 use Rattle.go_typing.specs.Uses.{names_in}
-use Rattle.go_statements.specs.Walk.{Walk, Did, and_then, pushed, within, with_name, is_there, fresh, noted, with_variable, with_unknown, with_lost, with_uses, uses, uses_all}
-use Rattle.go_statements.specs.Assign.{Left, left_blank, left_place, left_wrong, left_use, left_uses, is_name, is_bare, fresh_use, fresh_uses, call_assigned, several_right, first_right, same_number, count_of, assign_by, assign, update_left, update, step, Fresh, new_name, old_name, blank_name, no_name, Defined, with_new, define_new, define_one, fresh_of, define_each, define_flaws, define_type_new, define_type, define_types, with_unknown_new, with_fresh, unknown_names, define_call, define_by, define}
+use Rattle.go_typing.specs.Walk.{Walk, Did, and_then, pushed, within, with_name, is_there, fresh, noted, with_variable, with_unknown, with_lost, with_uses, uses, uses_all}
+use Rattle.go_typing.specs.Assign.{Left, left_blank, left_place, left_wrong, left_use, left_uses, is_name, is_bare, fresh_use, fresh_uses, call_assigned, several_right, first_right, same_number, count_of, assign_by, assign, update_left, update, step, Fresh, new_name, old_name, blank_name, no_name, Defined, with_new, define_new, define_one, fresh_of, define_each, define_flaws, define_type_new, define_type, define_types, with_unknown_new, with_fresh, unknown_names, define_call, define_by, define}
 use Rattle.go_sound.specs.GoesOn.{AreNumbered, GoesOn}
 
 -- ---- on and on

@@ -15,12 +15,12 @@ use Rattle.go_typing.specs.Wanted.{wanted, wanted_type}
 use Rattle.go_typing.specs.Typing.{place_of, typing}
 use Rattle.go_typing.specs.Unknown.{LessKnown}
 use Rattle.go_typing.proofs.More.{stays_typed}
-use Rattle.go_statements.specs.Walk.{Walk}
-use Rattle.go_statements.specs.Expressions.{type_of, answer_in}
-use Rattle.go_statements.specs.Declare.{SpecType, no_type, of_type, lost_type, spec_type_of, counting, constant_value, constant_decl}
-use Rattle.go_packages.specs.Signature.{SigTypes}
-use Rattle.go_packages.specs.Items.{Item, constant_item, type_item, alias_item, function_item, variable_item, init_item}
-use Rattle.go_packages.specs.Known.{Known, named_type, outside, type_found, type_decl, alias_decl, constant_found, function_decl, decl_of}
+use Rattle.go_typing.specs.Walk.{Walk}
+use Rattle.go_typing.specs.Expressions.{type_of, answer_in}
+use Rattle.go_typing.specs.Declare.{SpecType, no_type, of_type, lost_type, spec_type_of, counting, constant_value, constant_decl}
+use Rattle.go_typing.specs.Signature.{SigTypes}
+use Rattle.go_typing.specs.Items.{Item, constant_item, type_item, alias_item, function_item, variable_item, init_item}
+use Rattle.go_typing.specs.Known.{Known, named_type, outside, type_found, type_decl, alias_decl, constant_found, function_decl, decl_of}
 use Rattle.go_sound.proofs.Agree.{Agrees, AllAgree, AnswerAgrees, Alike, under_same, wanted_alike}
 use Rattle.go_sound.proofs.AgreeTyping.{DeclAgrees, OptionAgrees, ScopesAgree, typing_alike}
 use Rattle.go_sound.proofs.SigLess.{OfTy, SameTy, LessTy, OfSig, LessSig, sig_less}

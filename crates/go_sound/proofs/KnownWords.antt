@@ -8,9 +8,9 @@ use Rattle.go_type.specs.Named.{NamedTy}
 use Rattle.go_type.specs.Underlying.{underlying, under_in, under_at}
 use Rattle.go_typing.specs.Env.{Decl, unknown, Bind, find, is_blank}
 use Rattle.go_typing.specs.Scopes.{place_in}
-use Rattle.go_statements.specs.Walk.{bind_of}
-use Rattle.go_packages.specs.Items.{Item, constant_item, type_item, alias_item, function_item, variable_item, init_item, name_of}
-use Rattle.go_packages.specs.Known.{Known, decl_of, type_found, bound_at, with_item, binds_from, named_by, unset, names_alone}
+use Rattle.go_typing.specs.Walk.{bind_of}
+use Rattle.go_typing.specs.Items.{Item, constant_item, type_item, alias_item, function_item, variable_item, init_item, name_of}
+use Rattle.go_typing.specs.Known.{Known, decl_of, type_found, bound_at, with_item, binds_from, named_by, unset, names_alone}
 
 -- ---- each item
 

@@ -4,7 +4,7 @@ use Rattle.std.specs.Prelude.{nat_lt}
 use Rattle.std.proofs.lemmas.Bool.Decides.{nat_tests}
 use Rattle.go_typing.specs.Answer.{Flaw}
 use Rattle.go_typing.specs.Faulty.{IsIn}
-use Rattle.go_packages.specs.Checked.{is_before, least_from, least}
+use Rattle.go_typing.specs.Checked.{is_before, least_from, least}
 use Rattle.go_sound.specs.Least.{IsBefore, IsLeast}
 
 -- three numbers in order

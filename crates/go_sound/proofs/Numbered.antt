@@ -2,8 +2,8 @@
 use Rattle.std.proofs.Common.{ℕ, suc, List, [], ◌∷◌, ◌++◌, refl, sym, subst, Bool, true, false, if◌then◌else◌}
 use Rattle.go_syntax.specs.Tree as t
 use Rattle.go_syntax.specs.declared.tree.Name.{Name}
-use Rattle.go_statements.specs.Declare.{names_count}
-use Rattle.go_packages.specs.Items.{Item, constant_item, type_item, alias_item, function_item, variable_item, init_item, is_init, each_name, spec_items, constant_items, each_variable, variable_items, type_items, types_after, items_from, items_of}
+use Rattle.go_typing.specs.Declare.{names_count}
+use Rattle.go_typing.specs.Items.{Item, constant_item, type_item, alias_item, function_item, variable_item, init_item, is_init, each_name, spec_items, constant_items, each_variable, variable_items, type_items, types_after, items_from, items_of}
 use Rattle.go_sound.proofs.KnownWords.{NumberedTo}
 
 append : (k m n : ℕ) (is js : List Item) → NumberedTo k is m → NumberedTo m js n → NumberedTo k (is ++ js) n

@@ -6,8 +6,8 @@ use Rattle.go_type.specs.Named.{NamedTy}
 use Rattle.go_type.specs.Underlying.{underlying}
 use Rattle.go_typing.specs.Env.{Decl, variable, global, constant, type_name, function, imported, nil_value, refused, unknown, Bind}
 use Rattle.go_typing.specs.Env as env
-use Rattle.go_packages.specs.Items.{Item, constant_item, type_item, alias_item, function_item, variable_item, init_item, items_of}
-use Rattle.go_packages.specs.Known.{Known, named_type, type_found, type_decl, decl_of, round, nothing_known, after_rounds, known}
+use Rattle.go_typing.specs.Items.{Item, constant_item, type_item, alias_item, function_item, variable_item, init_item, items_of}
+use Rattle.go_typing.specs.Known.{Known, named_type, type_found, type_decl, decl_of, round, nothing_known, after_rounds, known}
 use Rattle.go_sound.specs.Rounds.{IsItem, TypesNoMore, IsFixed, IsReached, StaysSo, IsLeastFixed}
 use Rattle.go_sound.proofs.KnownWords.{AllItems, all_items, every_item, fill_same, LessDecl, OfType, NumberedTo, under_found, nothing, no_type, types_same, fill, types_from}
 use Rattle.go_sound.proofs.Grown.{KnowsLess, ItemLess, item_less}

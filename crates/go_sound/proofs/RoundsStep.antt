@@ -5,8 +5,8 @@ use Rattle.go_type.specs.Tree.{Ty}
 use Rattle.go_type.specs.Named.{NamedTy}
 use Rattle.go_type.specs.Underlying.{underlying, under_at}
 use Rattle.go_typing.specs.Env.{Decl, unknown, Bind, find}
-use Rattle.go_packages.specs.Items.{Item, constant_item, type_item, alias_item, function_item, variable_item, init_item}
-use Rattle.go_packages.specs.Known.{Known, first_names, named_type, type_found, type_decl, decl_of, named_by, unset, round, nothing_known}
+use Rattle.go_typing.specs.Items.{Item, constant_item, type_item, alias_item, function_item, variable_item, init_item}
+use Rattle.go_typing.specs.Known.{Known, first_names, named_type, type_found, type_decl, decl_of, named_by, unset, round, nothing_known}
 use Rattle.go_sound.proofs.AgreeTyping.{DeclAgrees, OptionAgrees}
 use Rattle.go_sound.proofs.KnownWords.{AllItems, all_items, every_item, all_both, fill, binds_filled, alone_filled, nothing, LessDecl, fill_less, found_less, OfOption, fill_all, found_all, under_found, named_filled, unset_filled, no_type, types_from, OfType, LessUnder, names_less, types_less, first_less, NumberedTo, IsAt, all_at}
 use Rattle.go_sound.proofs.Grown.{IsSet, KnowsLess, set_grows, decl_more, ItemLess, item_less}

@@ -7,10 +7,10 @@ use Rattle.go_type.specs.Tree.{Ty, Tys}
 use Rattle.go_typing.specs.Env.{Decl, variable, Bind, universe, is_blank}
 use Rattle.go_typing.specs.Answer.{Flaw, flaw}
 use Rattle.go_typing.specs.Scopes.{place_in, with_bind, last_scope, last_changed}
-use Rattle.go_statements.specs.Walk.{Walk, bind_of, with_name, is_there, redeclared, fresh}
-use Rattle.go_statements.specs.Expressions.{type_in}
-use Rattle.go_packages.specs.Signature.{Param, type_of_param, and_type, types_of, param_flaws, params_flaws, is_mixed, mixed_flaws, list_flaws, params_of, results_of, params_place, results_place, name_flaws, bound_name, bound, names_flaws, inside, sig_flaws, SigTypes, both, where_untold, sig_types}
-use Rattle.go_packages.specs.Known.{Known, outside, type_found}
+use Rattle.go_typing.specs.Walk.{Walk, bind_of, with_name, is_there, redeclared, fresh}
+use Rattle.go_typing.specs.Expressions.{type_in}
+use Rattle.go_typing.specs.Signature.{Param, type_of_param, and_type, types_of, param_flaws, params_flaws, is_mixed, mixed_flaws, list_flaws, params_of, results_of, params_place, results_place, name_flaws, bound_name, bound, names_flaws, inside, sig_flaws, SigTypes, both, where_untold, sig_types}
+use Rattle.go_typing.specs.Known.{Known, outside, type_found}
 use Rattle.go_sound.proofs.Agree.{Agrees, AllAgree}
 use Rattle.go_sound.proofs.Clean.{type_clean}
 

@@ -17,8 +17,8 @@ use Rattle.go_typing.specs.Operand.{Operand, single, is_bool, Settled, settled, 
 use Rattle.go_typing.specs.Wanted.{wanted, wanted_operand, wanted_alone, alone_operand, settled_answer}
 use Rattle.go_typing.specs.Typing.{typing, place_of}
 use Rattle.go_typing.specs.Faulty.{IsIn}
-use Rattle.go_statements.specs.Walk.{Walk}
-use Rattle.go_statements.specs.Expressions.{value_at, value_alone, condition, condition_of, condition_flaws, core_of, type_of, answer_in, flaws_in}
+use Rattle.go_typing.specs.Walk.{Walk}
+use Rattle.go_typing.specs.Expressions.{value_at, value_alone, condition, condition_of, condition_flaws, core_of, type_of, answer_in, flaws_in}
 use Rattle.go_sound.specs.Added.{TypeIsSet, TypesAreSet}
 use Rattle.go_sound.specs.SoundTyped.{HasOperators, IsScalarType}
 use Rattle.go_sound.specs.SoundValues.{IsReady, ValuesAreSound, IsAnyValue, AnyValuesAreSound, ConditionsAreSound}

@@ -6,9 +6,9 @@ use Rattle.go_type.specs.Named.{NamedTy}
 use Rattle.go_core.specs.CoreTree.{Var}
 use Rattle.go_core.specs.SoundProgram.{DifferInId, all_vars}
 use Rattle.go_typing.specs.Scopes.{without_last}
-use Rattle.go_statements.specs.Walk.{Walk, Around}
-use Rattle.go_statements.specs.Statements.{stmt, block}
-use Rattle.go_packages.specs.Checked.{program_of}
+use Rattle.go_typing.specs.Walk.{Walk, Around}
+use Rattle.go_typing.specs.Statements.{stmt, block}
+use Rattle.go_typing.specs.Checked.{program_of}
 
 -- the numbers of these variables run from the one on, up to the other
 abbrev pub AreNumbered : ℕ → List Var → ℕ → Type 0

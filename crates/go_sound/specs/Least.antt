@@ -3,7 +3,7 @@ use Rattle.std.specs.Prelude.{◌≡◌, ◌<◌, ◌⊎◌, ◌↔◌, List, []
 use Rattle.go_syntax.specs.Tree as t
 use Rattle.go_typing.specs.Answer.{Flaw}
 use Rattle.go_typing.specs.Faulty.{IsIn}
-use Rattle.go_packages.specs.Checked.{told, fault_of}
+use Rattle.go_typing.specs.Checked.{told, fault_of}
 
 -- by file, then by offset, then by code
 abbrev pub IsBefore : Flaw → Flaw → Type 0

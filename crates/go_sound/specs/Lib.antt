@@ -1,3 +1,4 @@
+pub mod Circle
 pub mod Least
 pub mod Rounds
 pub mod SoundTyped
@@ -5,3 +6,12 @@ pub mod GoesOn
 pub mod Added
 pub mod Lost
 pub mod SoundValues
+pub mod Rows
+pub mod Circles
+pub mod Grammar
+pub mod SoundStatements
+pub mod SoundFunctions
+pub mod SoundPrograms
+pub mod FaultyNames
+pub mod FaultyPackages
+pub mod FaultyStatements

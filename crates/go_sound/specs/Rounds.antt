@@ -3,9 +3,9 @@
 use Rattle.std.specs.Prelude.{◌≡◌, ◌≤◌, ◌⊎◌, ℕ, suc, length, List, [], ◌∷◌}
 use Rattle.go_syntax.specs.Tree as t
 use Rattle.go_typing.specs.Env.{unknown}
-use Rattle.go_packages.specs.Items.{Item, items_of}
-use Rattle.go_packages.specs.Known.{Known, decl_of, round, after_rounds}
-use Rattle.go_packages.specs.Checked.{known_in}
+use Rattle.go_typing.specs.Items.{Item, items_of}
+use Rattle.go_typing.specs.Known.{Known, decl_of, round, after_rounds}
+use Rattle.go_typing.specs.Checked.{known_in}
 
 abbrev pub IsItem : Item → List Item → Type 0
 IsItem i [] = ⊥

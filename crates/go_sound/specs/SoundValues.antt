@@ -8,8 +8,8 @@ use Rattle.go_core.specs.CoreTree.{CoreProgram}
 use Rattle.go_core.specs.SoundNode as sound
 use Rattle.go_core.specs.SoundNode.{IsBool}
 use Rattle.go_core.specs.Sound.{Gives, GivesSome, SoundExpr}
-use Rattle.go_statements.specs.Walk.{Walk}
-use Rattle.go_statements.specs.Expressions.{value_at, value_alone, condition, core_of, type_of}
+use Rattle.go_typing.specs.Walk.{Walk}
+use Rattle.go_typing.specs.Expressions.{value_at, value_alone, condition, core_of, type_of}
 use Rattle.go_sound.specs.Added.{TypeIsSet, ScopesAreSet}
 use Rattle.go_sound.specs.Lost.{NothingUnknown}
 use Rattle.go_sound.specs.SoundTyped.{HasOperators, IsScalarType, ScopesAreSound}

@@ -12,16 +12,16 @@ use Rattle.go_typing.specs.Answer.{Flaw}
 use Rattle.go_typing.specs.Env.{Bind, universe, iota_in}
 use Rattle.go_typing.specs.Scopes as scopes
 use Rattle.go_typing.specs.Scopes.{visible, package_scopes}
-use Rattle.go_scopes.specs.declared.env.Env.{Env}
-use Rattle.go_scopes.specs.EnvView.{table_of, env_of}
-use Rattle.go_statements.specs.Walk.{Walk}
-use Rattle.go_packages.specs.Items.{Item, items_of}
-use Rattle.go_packages.specs.Known.{Known, first_names, after_rounds, outside}
-use Rattle.go_packages.specs.Checked.{known_in, least}
-use Rattle.go_binds.specs.Stands.{Stands}
+use Rattle.go_operands.specs.declared.scopes.env.Env.{Env}
+use Rattle.go_operands.specs.EnvView.{table_of, env_of}
+use Rattle.go_typing.specs.Walk.{Walk}
+use Rattle.go_typing.specs.Items.{Item, items_of}
+use Rattle.go_typing.specs.Known.{Known, first_names, after_rounds, outside}
+use Rattle.go_typing.specs.Checked.{known_in, least}
+use Rattle.go_items.specs.Stands.{Stands}
 use Rattle.go_walk.specs.WalkView.{walk_outside, Keeps}
-use Rattle.go_typed.specs.Raw.{Grows}
-use Rattle.go_local_consts.specs.Plain.{IsPlain}
+use Rattle.go_expr.specs.Raw.{Grows}
+use Rattle.go_body.specs.Plain.{IsPlain}
 use Rattle.go_stmt.specs.Checks.{Refuses, Judges}
 
 -- ---- the scope of a package

@@ -1,2 +1,5 @@
+pub mod DoneLemmas
+mod FunctionLemmas
+mod LoopLemmas
 mod CheckLemmas
 mod MadeLemmas

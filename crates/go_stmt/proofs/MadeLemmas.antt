@@ -13,31 +13,31 @@ use Rattle.go_type.specs.Table.{places, names, size}
 use Rattle.go_type.specs.declared.types.TypeId.{TypeId}
 use Rattle.go_type.specs.declared.table.TypeTable.{TypeTable}
 use Rattle.go_typing.specs.Answer.{Flaw}
-use Rattle.go_scopes.specs.declared.env.Env.{Env}
-use Rattle.go_scopes.specs.EnvView.{table_of, env_of}
+use Rattle.go_operands.specs.declared.scopes.env.Env.{Env}
+use Rattle.go_operands.specs.EnvView.{table_of, env_of}
 use Rattle.go_typing.specs.Scopes.{visible}
 use Rattle.go_core.specs.CoreTree.{CoreFunc, CoreProgram}
 use Rattle.go_core.specs.CoreView.{func_view, method_row_view, package_row_view, program_view}
 use Rattle.go_core.specs.SoundProgram.{Sound}
 use Rattle.go_core.specs.declared.program.Func.{Func}
 use Rattle.go_core.specs.declared.program.Program.{Program}
-use Rattle.go_statements.specs.Walk.{Walk}
-use Rattle.go_packages.specs.Known.{hidden, outside}
-use Rattle.go_packages.specs.Functions.{Between, Functions, functions_from}
-use Rattle.go_packages.specs.Checked.{known_in, first_too_far, told, or_generated, count_functions, between_of, error_function, runtime_function, method_at, program_with, program_of}
-use Rattle.go_binds.specs.Stands.{Stands}
+use Rattle.go_typing.specs.Walk.{Walk}
+use Rattle.go_typing.specs.Known.{hidden, outside}
+use Rattle.go_typing.specs.Functions.{Between, Functions, functions_from}
+use Rattle.go_typing.specs.Checked.{known_in, first_too_far, told, or_generated, count_functions, between_of, error_function, runtime_function, method_at, program_with, program_of}
+use Rattle.go_items.specs.Stands.{Stands}
 use Rattle.go_walk.specs.WalkView.{walk_outside, walk_of, Keeps}
-use Rattle.go_walk.specs.declared.walk.Walk as code
-use Rattle.go_local_consts.specs.Plain.{IsPlain}
-use Rattle.go_heads.specs.Heads as heads
-use Rattle.go_heads.specs.Heads.{heads_from, functions_by}
-use Rattle.go_heads.specs.HeadView.{head_view, now_of, AreReady}
-use Rattle.go_heads.specs.declared.head.Head.{Head}
-use Rattle.go_programs.specs.Grammar.{DeclsOfGrammar}
-use Rattle.go_programs.specs.SoundPrograms.{HasMain, ProgramsAreSound}
+use Rattle.go_walk.specs.declared.walk.walk.Walk as code
+use Rattle.go_body.specs.Plain.{IsPlain}
+use Rattle.go_decls.specs.Heads as heads
+use Rattle.go_decls.specs.Heads.{heads_from, functions_by}
+use Rattle.go_decls.specs.HeadView.{head_view, now_of, AreReady}
+use Rattle.go_decls.specs.declared.heads.head.Head.{Head}
+use Rattle.go_sound.specs.Grammar.{DeclsOfGrammar}
+use Rattle.go_sound.specs.SoundPrograms.{HasMain, ProgramsAreSound}
 use Rattle.go_stmt.specs.Checks.{flaws_before, IsProgramOf, Judges, Checks}
 use Rattle.go_stmt.specs.Made.{functions_of, AreMade, IsFrameOf}
-use Rattle.go_stmt.specs.declared.made.Frame.{Frame}
+use Rattle.go_stmt.specs.declared.stmt.made.Frame.{Frame}
 use Rattle.go_stmt.proofs.CheckLemmas.{is_outside, is_plain, keeps_own}
 
 -- ---- the program

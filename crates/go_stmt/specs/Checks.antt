@@ -8,11 +8,11 @@ use Rattle.go_type.specs.Table.{places}
 use Rattle.go_core.specs.CoreView.{program_view}
 use Rattle.go_core.specs.declared.program.Program.{Program}
 use Rattle.go_typing.specs.Answer.{Flaw}
-use Rattle.go_packages.specs.Items.{items_of}
-use Rattle.go_packages.specs.Known.{outside}
-use Rattle.go_packages.specs.Cycles.{cycle_flaws}
-use Rattle.go_packages.specs.Told.{names_told, decls_told}
-use Rattle.go_packages.specs.Checked.{known_in, told, least, fault_of, program_of}
+use Rattle.go_typing.specs.Items.{items_of}
+use Rattle.go_typing.specs.Known.{outside}
+use Rattle.go_typing.specs.Cycles.{cycle_flaws}
+use Rattle.go_typing.specs.Told.{names_told, decls_told}
+use Rattle.go_typing.specs.Checked.{known_in, told, least, fault_of, program_of}
 use Rattle.go_load.specs.Packages.{PackageTree}
 
 -- the trees of the first package, which is the root

@@ -1,2 +1,4 @@
+pub mod Start
+pub mod Done
 pub mod Checks
 pub mod Made

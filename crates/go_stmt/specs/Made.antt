@@ -5,14 +5,14 @@ use Rattle.go_type.specs.Tree.{Ty}
 use Rattle.go_type.specs.Levels.{tree_of}
 use Rattle.go_type.specs.Table.{places, names}
 use Rattle.go_type.specs.declared.types.TypeId.{TypeId}
-use Rattle.go_scopes.specs.declared.env.Env.{Env}
-use Rattle.go_scopes.specs.EnvView.{table_of}
+use Rattle.go_operands.specs.declared.scopes.env.Env.{Env}
+use Rattle.go_operands.specs.EnvView.{table_of}
 use Rattle.go_core.specs.CoreView.{func_view, method_row_view, package_row_view}
 use Rattle.go_core.specs.declared.program.Func.{Func}
-use Rattle.go_packages.specs.Known.{hidden}
-use Rattle.go_packages.specs.Functions.{Functions}
-use Rattle.go_packages.specs.Checked.{known_in, functions_in, main_from, count_functions, method_at}
-use Rattle.go_stmt.specs.declared.made.Frame.{Frame}
+use Rattle.go_typing.specs.Known.{hidden}
+use Rattle.go_typing.specs.Functions.{Functions}
+use Rattle.go_typing.specs.Checked.{known_in, functions_in, main_from, count_functions, method_at}
+use Rattle.go_stmt.specs.declared.stmt.made.Frame.{Frame}
 
 -- the functions of a package, those that come of them, and what is known after the last
 abbrev pub functions_of : List t.Decl → Functions

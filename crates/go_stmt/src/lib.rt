@@ -1,15 +1,9 @@
-//! The check of a package: the least fault that is told of it, or else the program that it is.
+//! The check of a package of scalar programs: its functions with their bodies, and the whole.
 //!
-//! The Go Programming Language Specification (as of Go 1.17), "Packages", "Program execution". The
-//! definitions stand in go_packages (`specs/Checked.antt`).
+//! The Go Programming Language Specification (as of Go 1.17), "Packages", "Program execution".
 #![tactic(auto)]
 
-pub mod before;
-pub mod checking;
-pub mod files;
-pub mod made;
-pub mod verdict;
+pub mod functions;
+pub mod stmt;
 
-pub use checking::check;
-pub use files::root_files;
-pub use made::gone_program;
+pub use stmt::{check, gone_program, root_files};

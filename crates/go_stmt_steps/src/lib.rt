@@ -1,4 +1,7 @@
-//! What the frames of statements without a header do at a token, and with the tree that they waited for.
+//! The steps of the parser in statements.
+//!
+//! The Go Programming Language Specification (as of Go 1.17), "Statements".
 #![tactic(auto)]
 
-pub mod stmt;
+pub mod simple_steps;
+pub mod stmt_steps;

@@ -8,7 +8,7 @@ use Rattle.go_type.specs.Tree as ty
 use Rattle.go_core.specs.CoreTree as core
 use Rattle.go_typing.specs.Answer.{value, does}
 use Rattle.go_typing.specs.Operand.{typed_constant}
-use Rattle.go_typing.specs.RowWords.{name, num, rune, str, paren, pre, two, call, call_spread, int, int64, uint8, int32, named_int, named_bool, named_str, one_type, two_types, typed, told, fault, named_fault, b_, i_, w_, s_, z_, a_value, whole_of, num_at, text_at, args}
+use Rattle.go_typing.specs.TypingRowWords.{name, num, rune, str, paren, pre, two, call, call_spread, int, int64, uint8, int32, named_int, named_bool, named_str, one_type, two_types, typed, told, fault, named_fault, b_, i_, w_, s_, z_, a_value, whole_of, num_at, text_at, args}
 
 pub record RowsCalls : Type 0 where
   -- conversions

@@ -10,7 +10,7 @@ use Rattle.go_core.specs.CoreTree as core
 use Rattle.go_typing.specs.Env.{Len}
 use Rattle.go_typing.specs.Answer.{value, type_, built_in, blank, untyped_part}
 use Rattle.go_typing.specs.Operand.{untyped_constant}
-use Rattle.go_typing.specs.RowWords.{at, name, num, rune, str, paren, pre, two, call, int, uint8, int32, named_int, typed, told, fault, named_fault, i_, a_value, whole, whole_of, select}
+use Rattle.go_typing.specs.TypingRowWords.{at, name, num, rune, str, paren, pre, two, call, int, uint8, int32, named_int, typed, told, fault, named_fault, i_, a_value, whole, whole_of, select}
 
 pub record RowsNames : Type 0 where
   -- names

@@ -7,7 +7,7 @@ use Rattle.go_syntax.specs.declared.tree.Prefix.TheVariants as «prefix»
 use Rattle.go_type.specs.Tree as ty
 use Rattle.go_core.specs.CoreTree as core
 use Rattle.go_typing.specs.Operand.{untyped_constant, constant_at}
-use Rattle.go_typing.specs.RowWords.{name, num, rune, str, paren, pre, two, call, int, int64, uint8, named_int, named_bool, typed, told, fault, named_fault, b_, i_, w_, u_, s_, n_, d_, a_value, a_truth, whole, whole_of, num_at, text_at}
+use Rattle.go_typing.specs.TypingRowWords.{name, num, rune, str, paren, pre, two, call, int, int64, uint8, named_int, named_bool, typed, told, fault, named_fault, b_, i_, w_, u_, s_, n_, d_, a_value, a_truth, whole, whole_of, num_at, text_at}
 
 pub record RowsOperators : Type 0 where
   -- before an operand

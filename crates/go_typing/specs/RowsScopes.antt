@@ -8,7 +8,7 @@ use Rattle.go_typing.specs.Answer.{Flaw, Answer, type_, blank}
 use Rattle.go_typing.specs.Typing.{typing, flaws}
 use Rattle.go_typing.specs.Scopes.{Env, new_env, visible, entered, pushed, popped, counting, innermost, place_in, declared, settled}
 use Rattle.go_typing.specs.Uses.{names_in}
-use Rattle.go_typing.specs.RowWords.{at, name, num, two, call, named_fault, a_value, var, int, uint8, whole, names}
+use Rattle.go_typing.specs.TypingRowWords.{at, name, num, two, call, named_fault, a_value, var, int, uint8, whole, names}
 
 abbrev pub main_env : Env
 main_env = entered (codes "main") (new_env names)

@@ -9,7 +9,7 @@ use Rattle.go_type.specs.declared.types.Basis.TheVariants as basis
 use Rattle.go_core.specs.CoreTree as core
 use Rattle.go_typing.specs.Answer.{pending, shifted}
 use Rattle.go_typing.specs.Operand.{untyped_constant}
-use Rattle.go_typing.specs.RowWords.{at, name, num, rune, str, paren, pre, two, call, int, int64, uint8, uint, int32, named_int, typed, told, typed_as, told_as, typed_alone, faulty, fault, named_fault, i_, w_, u_, a_value, a_truth, whole, whole_of, num_at}
+use Rattle.go_typing.specs.TypingRowWords.{at, name, num, rune, str, paren, pre, two, call, int, int64, uint8, uint, int32, named_int, typed, told, typed_as, told_as, typed_alone, faulty, fault, named_fault, i_, w_, u_, a_value, a_truth, whole, whole_of, num_at}
 
 pub record RowsShifts : Type 0 where
   -- constants

@@ -5,7 +5,7 @@ use Rattle.go_syntax.specs.Tree as t
 use Rattle.go_syntax.specs.declared.tree.Prefix.TheVariants as «prefix»
 use Rattle.go_type.specs.Tree as ty
 use Rattle.go_core.specs.CoreTree as core
-use Rattle.go_typing.specs.RowWords.{name, num, rune, str, paren, pre, two, at_index, int, uint8, named_str, typed, told, fault, named_fault, i_, w_, s_, z_, a_value, num_at, text_at, part_of}
+use Rattle.go_typing.specs.TypingRowWords.{name, num, rune, str, paren, pre, two, at_index, int, uint8, named_str, typed, told, fault, named_fault, i_, w_, s_, z_, a_value, num_at, text_at, part_of}
 
 pub record RowsTexts : Type 0 where
   -- bytes

@@ -7,7 +7,7 @@ use Rattle.go_type.specs.Tree as ty
 use Rattle.go_core.specs.CoreTree as core
 use Rattle.go_typing.specs.Answer.{type_, untyped_part}
 use Rattle.go_typing.specs.Operand.{typed_constant}
-use Rattle.go_typing.specs.RowWords.{name, num, rune, str, paren, two, call, int, int64, uint8, int32, named_int, named_bool, named_str, typed_as, told_as, typed_alone, typed_type, faulty, fault, named_fault, i_, n_, a_value, whole_of, num_at}
+use Rattle.go_typing.specs.TypingRowWords.{name, num, rune, str, paren, two, call, int, int64, uint8, int32, named_int, named_bool, named_str, typed_as, told_as, typed_alone, typed_type, faulty, fault, named_fault, i_, n_, a_value, whole_of, num_at}
 
 pub record RowsWanted : Type 0 where
   -- a value of a type

@@ -1,7 +1,10 @@
-//! What the nodes of scalar programs are typed as, and which of them are faulty.
+//! The definitions of typing for scalar programs: expressions, statements, packages. Nothing here
+//! runs but rows that the check computes.
 //!
-//! The Go Programming Language Specification (as of Go 1.17), "Declarations and scope",
-//! "Expressions". The definitions stand in `specs/`; a checker's code is held against them.
+//! The Go Programming Language Specification (as of Go 1.17), "Expressions", "Statements",
+//! "Declarations and scope", "Packages".
 #![tactic(auto)]
 
-pub mod laws;
+pub mod packages;
+pub mod statements;
+pub mod typing;

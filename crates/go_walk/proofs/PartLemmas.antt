@@ -4,11 +4,11 @@ use Rattle.std.specs.Borrow.{Bor}
 use Rattle.gj_base.specs.declared.place.Place.{Place}
 use Rattle.go_syntax.specs.declared.tree.Name.{Name}
 use Rattle.go_typing.specs.Env.{nowhere}
-use Rattle.go_sets.specs.Has as sets
-use Rattle.go_labels.specs.Seen.{names_of}
-use Rattle.go_statements.specs.Statements.{name_places}
-use Rattle.go_statements.specs.Walk.{same_place, is_among, all_used, any_among}
-use Rattle.go_walk.proofs.Steps.{next_at, next_in, past, or_false, moved_over, other_way}
+use Rattle.go_walk.specs.SetsHas as sets
+use Rattle.go_walk.specs.Seen.{names_of}
+use Rattle.go_typing.specs.Statements.{name_places}
+use Rattle.go_typing.specs.Walk.{same_place, is_among, all_used, any_among}
+use Rattle.go_walk.proofs.WalkSteps.{next_at, next_in, past, or_false, moved_over, other_way}
 
 -- ---- a set that is filled
 

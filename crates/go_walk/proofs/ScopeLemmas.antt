@@ -6,11 +6,11 @@ use Rattle.go_type.specs.Named.{NamedTy}
 use Rattle.go_typing.specs.Env.{Bind, iota_in}
 use Rattle.go_typing.specs.Scopes as scopes
 use Rattle.go_typing.specs.Scopes.{Env, visible, package_scopes, without_last, last_changed, last_scope, with_bind, place_in, innermost}
-use Rattle.go_statements.specs.Walk.{place_found, first_of, declared_place}
-use Rattle.go_statements.specs.Declare.{with_iota}
-use Rattle.go_scopes.specs.EnvView.{with_types}
-use Rattle.go_scopes.specs.Held.{first_place}
-use Rattle.go_scopes.specs.Origin.{origin}
+use Rattle.go_typing.specs.Walk.{place_found, first_of, declared_place}
+use Rattle.go_typing.specs.Declare.{with_iota}
+use Rattle.go_operands.specs.EnvView.{with_types}
+use Rattle.go_operands.specs.Held.{first_place}
+use Rattle.go_operands.specs.Origin.{origin}
 
 -- the scope of the package doesn't change with the open ones
 package_same : (e : Env) (bs : List (List Bind)) (cur : Option (List ℕ)) → package_scopes (record e { blocks = bs }) cur ≡ package_scopes e cur

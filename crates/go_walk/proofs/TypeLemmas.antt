@@ -14,9 +14,9 @@ use Rattle.go_type.specs.declared.types.TypeId.{TypeId}
 use Rattle.go_core.specs.CoreTree.{Var}
 use Rattle.go_typing.specs.Env.{Bind, type_name}
 use Rattle.go_typing.specs.Scopes as scopes
-use Rattle.go_scopes.specs.EnvView.{with_types}
-use Rattle.go_statements.specs.Walk.{with_name}
-use Rattle.go_statements.specs.Declare.{declare_type}
+use Rattle.go_operands.specs.EnvView.{with_types}
+use Rattle.go_typing.specs.Walk.{with_name}
+use Rattle.go_typing.specs.Declare.{declare_type}
 use Rattle.go_walk.specs.WalkView.{named_for}
 use Rattle.go_walk.proofs.WalkLemmas.{made}
 

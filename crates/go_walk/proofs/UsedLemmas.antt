@@ -3,7 +3,7 @@ use Rattle.std.proofs.Common.{◌≡◌, ◌∙◌, refl, sym, ap, List, [], ◌
 use Rattle.gj_base.specs.declared.place.Place.{Place}
 use Rattle.go_syntax.specs.declared.tree.Name.{Name}
 use Rattle.go_typing.specs.Answer.{Flaw}
-use Rattle.go_statements.specs.Walk.{is_among, unused}
+use Rattle.go_typing.specs.Walk.{is_among, unused}
 
 pub unused_step : (before after : List Flaw) (n : Name) (ns : List Name) (used : List Place) (is_used : Bool) → is_used ≡ is_among n.place used
     → after ≡ before ++ cond is_used [] (record { place = n.place; code = 80; name = n.text } ∷ []) → after ++ unused ns used ≡ before ++ unused (n ∷ ns) used

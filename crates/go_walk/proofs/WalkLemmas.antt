@@ -8,8 +8,8 @@ use Rattle.go_core.specs.CoreTree.{Var}
 use Rattle.go_typing.specs.Env.{Bind, Decl, is_blank}
 use Rattle.go_typing.specs.Scopes as scopes
 use Rattle.go_typing.specs.Scopes.{Env, visible, innermost, last_scope, last_changed, with_bind, place_in}
-use Rattle.go_statements.specs.Walk as go
-use Rattle.go_statements.specs.Walk.{declared_place, places_of, bind_of, is_there, with_name}
+use Rattle.go_typing.specs.Walk as go
+use Rattle.go_typing.specs.Walk.{declared_place, places_of, bind_of, is_there, with_name}
 use Rattle.go_walk.proofs.ScopeLemmas.{inside, declares}
 
 abbrev pub made : List NamedTy → List (List Bind) → ℕ → ℕ → List Var → List Name → List Place → ℕ → go.Walk

@@ -1,2 +1,9 @@
+pub mod SetsHas
+pub mod Seen
+pub mod Left
+pub mod Texts
 pub mod WalkView
 pub mod Parts
+pub mod Steady
+pub mod ClauseView
+pub mod CasesHas

@@ -1,4 +1,4 @@
--- What the code's walk stands for: the walk of go_statements.
+-- What the code's walk stands for: the walk of go_typing.
 use Rattle.std.specs.Prelude.{◌≡◌, ℕ, ◌<◌, ◌++◌, List, [], ◌∷◌, Some, map, length}
 use Rattle.go_type.specs.Tree.{Ty}
 use Rattle.go_type.specs.Named.{NamedTy}
@@ -8,10 +8,10 @@ use Rattle.go_type.specs.declared.types.TypeId.{TypeId}
 use Rattle.go_type.specs.declared.table.TypeTable.{TypeTable}
 use Rattle.go_core.specs.CoreView.{var_of}
 use Rattle.go_typing.specs.Scopes.{visible}
-use Rattle.go_scopes.specs.declared.env.Env.{Env}
-use Rattle.go_scopes.specs.EnvView.{table_of, env_of}
-use Rattle.go_statements.specs.Walk as go
-use Rattle.go_walk.specs.declared.walk.Walk.{Walk}
+use Rattle.go_operands.specs.declared.scopes.env.Env.{Env}
+use Rattle.go_operands.specs.EnvView.{table_of, env_of}
+use Rattle.go_typing.specs.Walk as go
+use Rattle.go_walk.specs.declared.walk.walk.Walk.{Walk}
 
 -- the trees of a table's ids, also in a list that has more
 abbrev pub Keeps : TypeTable → List Ty → Type 0

@@ -1,17 +1,15 @@
-//! What is known while the statements of a function are gone through: types and scopes, numbers of
-//! variables and labels, and what was declared and used.
+//! What is known while the statements of a function are gone through, with the sets, labels, used
+//! names and core statements that this takes.
 //!
-//! The definitions stand in go_statements (`specs/Walk.antt`); `specs/WalkView.antt` says which of them
-//! each value here stands for.
+//! The Go Programming Language Specification (as of Go 1.17), "Blocks", "Declarations and scope",
+//! "Labeled statements", "Switch statements".
 #![tactic(auto)]
 
-pub mod again;
-pub mod kinds;
-pub mod parts;
-pub mod scopes;
-pub mod unused;
+pub mod cases;
+pub mod labels;
+pub mod sets;
+pub mod steady;
+pub mod stmt_gone;
+pub mod stmt_nodes;
 pub mod uses;
-pub mod variables;
 pub mod walk;
-
-pub use walk::Walk;

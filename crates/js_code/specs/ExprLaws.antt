@@ -2,7 +2,7 @@
 use Rattle.std.proofs.Common.{refl, List}
 use Rattle.js_tree.specs.Script as tree
 use Rattle.js_tree.specs.Script.{Expr, Exprs, no_exprs, expr}
-use Rattle.js_slots.specs.Places.{Table, place_of}
+use Rattle.js_code.specs.Places.{Table, place_of}
 use Rattle.js_code.specs.Parts.{Part, number, string, boolean, null, name, unary, binary, both, either, choice, call, index, length_of, pop, char_code_at, substring, array, dictionary, decimal_of, from_char_code, no_more, more, one, several, as_expr, as_exprs, last}
 use Rattle.js_code.specs.ExprParts.{with_expr, with_exprs}
 use Rattle.js_code.specs.PartClauses.{Adds}

@@ -2,13 +2,13 @@
 use Rattle.std.specs.Prelude.{◌≡◌, List, [], length}
 use Rattle.js_tree.specs.Script.{Name, Expr, Function}
 use Rattle.js_tree.specs.Evaluate.{scope_of}
-use Rattle.js_slots.specs.Names.{distinct}
-use Rattle.js_slots.specs.Places.{Table}
+use Rattle.js_code.specs.Names.{distinct}
+use Rattle.js_code.specs.Places.{Table}
 use Rattle.js_code.specs.Parts.{last}
 use Rattle.js_code.specs.ExprParts.{with_expr}
 use Rattle.js_code.specs.StmtParts.{with_stmts}
-use Rattle.js_code.specs.declared.function.FunctionCode as held
-use Rattle.js_code.specs.declared.function.ValueCode as value
+use Rattle.js_code.specs.declared.code.function.FunctionCode as held
+use Rattle.js_code.specs.declared.code.function.ValueCode as value
 
 -- the names of functions, top-level variables and locals, each once
 abbrev pub table_with : (functions globals locals : List Name) → Table

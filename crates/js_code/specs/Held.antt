@@ -1,9 +1,9 @@
 -- The parts that those of the program stand for.
 use Rattle.std.specs.Prelude.{List, Some, None, map}
-use Rattle.js_slots.specs.declared.place.Place.TheVariants.{Caught, Local, Host, Function, Global, Nowhere}
+use Rattle.js_code.specs.declared.slots.place.Place.TheVariants.{Caught, Local, Host, Function, Global, Nowhere}
 use Rattle.js_code.specs.Parts
-use Rattle.js_code.specs.declared.part.Part.{Part}
-use Rattle.js_code.specs.declared.part.Part.TheVariants as held
+use Rattle.js_code.specs.declared.code.part.Part.{Part}
+use Rattle.js_code.specs.declared.code.part.Part.TheVariants as held
 
 abbrev pub part_of : Part → Parts.Part
 part_of (held.Number at n) = Parts.number at n

@@ -1,3 +1,8 @@
+pub mod Names
+pub mod Places
+pub mod Slots
+pub mod NameLaws
+pub mod SlotLaws
 pub mod Parts
 pub mod Held
 pub mod ExprParts

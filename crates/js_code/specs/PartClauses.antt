@@ -1,8 +1,8 @@
 -- Own: what the laws say of the parts of expressions and statements.
 use Rattle.std.specs.Prelude.{◌≡◌, ℕ, ◌<◌, List, [], ◌∷◌, ◌++◌, Some, slice_get}
 use Rattle.js_tree.specs.Script.{Expr, Stmts}
-use Rattle.js_slots.specs.Names.{index_in}
-use Rattle.js_slots.specs.Places.{Table, place_of, target_of}
+use Rattle.js_code.specs.Names.{index_in}
+use Rattle.js_code.specs.Places.{Table, place_of, target_of}
 use Rattle.js_code.specs.Parts.{Part, number, string, boolean, null, name, unary, binary, both, either, choice, call, index, length_of, pop, char_code_at, substring, array, dictionary, decimal_of, from_char_code, no_more, more, declare, assign, store, perform, push, remove, branch, while, forever, switch, return_nothing, return, throw, break, continue, attempt, done, then, no_else, else_block, else_if, no_cases, default, case, Tree, one, block, tree_of, trees_of, last}
 use Rattle.js_code.specs.ExprParts.{with_expr}
 use Rattle.js_code.specs.StmtParts.{with_stmts}

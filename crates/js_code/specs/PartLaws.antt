@@ -5,7 +5,7 @@ use Rattle.std.proofs.lemmas.List.{append-nil, length-append}
 use Rattle.std.proofs.lemmas.List.Sums.{fold-append}
 use Rattle.js_tree.specs.Script as tree
 use Rattle.js_tree.specs.Script.{expr, stmt}
-use Rattle.js_slots.specs.Places.{Table}
+use Rattle.js_code.specs.Places.{Table}
 use Rattle.js_code.specs.Parts.{Part, number, string, boolean, null, name, unary, binary, both, either, choice, call, index, length_of, pop, char_code_at, substring, array, dictionary, decimal_of, from_char_code, no_more, more, declare, assign, store, perform, push, remove, branch, while, forever, switch, return_nothing, return, throw, break, continue, attempt, done, then, no_else, else_block, else_if, no_cases, default, case, Tree, one, several, single, block, other, cases, as_expr, as_exprs, as_stmt, as_stmts, as_else, as_cases, tree_of, with_tree, trees_of, last, with_part}
 use Rattle.js_code.specs.PartClauses.{parts_in, AreBelow, IsPlaced, IsCode, Adds, PartsStand}
 

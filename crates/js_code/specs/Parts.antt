@@ -4,7 +4,7 @@ use Rattle.js_tree.specs.Script as tree
 use Rattle.js_tree.specs.Script.{Name, Expr, Exprs, no_exprs, expr, Stmt, Stmts, no_stmts, stmt, Else, Cases}
 use Rattle.js_tree.specs.declared.tree.UnaryOp.{UnaryOp}
 use Rattle.js_tree.specs.declared.tree.BinaryOp.{BinaryOp}
-use Rattle.js_slots.specs.declared.place.Place.{Place}
+use Rattle.js_code.specs.declared.slots.place.Place.{Place}
 
 -- a part by its offset, with its own parts by their numbers
 pub data Part : Type 0 where

@@ -2,8 +2,8 @@
 use Rattle.std.proofs.Common.{refl, List, Some, None}
 use Rattle.js_tree.specs.Script as tree
 use Rattle.js_tree.specs.Script.{Stmt, Stmts, no_stmts, stmt, Else, Cases}
-use Rattle.js_slots.specs.Names.{index_in}
-use Rattle.js_slots.specs.Places.{Table, target_of}
+use Rattle.js_code.specs.Names.{index_in}
+use Rattle.js_code.specs.Places.{Table, target_of}
 use Rattle.js_code.specs.Parts.{Part, declare, assign, store, perform, push, remove, branch, while, forever, switch, return_nothing, return, throw, break, continue, attempt, done, then, no_else, else_block, else_if, no_cases, default, case, one, single, block, other, cases, as_expr, as_stmt, as_stmts, as_else, as_cases, last}
 use Rattle.js_code.specs.ExprParts.{with_expr}
 use Rattle.js_code.specs.StmtParts.{with_stmt, with_stmts, with_else, with_cases}

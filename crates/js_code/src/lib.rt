@@ -1,15 +1,7 @@
-//! Scripts as flat code, in which each name has its place.
+//! Scripts as flat code: names in slots, and expressions, statements and functions as lists of parts.
+//!
+//! ECMA-262 5.1, sections 10 to 14, cut to a subset (docs/SCRIPT.md).
 #![tactic(auto)]
 
 pub mod code;
-pub mod expr;
-pub mod function;
-pub mod laws;
-pub mod part;
-pub mod stmt;
-
-pub use code::Code;
-pub use expr::{DEPTH, add_expr};
-pub use function::{FunctionCode, ValueCode, function_code, value_code};
-pub use part::Part;
-pub use stmt::add_stmts;
+pub mod slots;

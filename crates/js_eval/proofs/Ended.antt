@@ -7,7 +7,7 @@ use Rattle.js_tree.specs.Value as run
 use Rattle.js_tree.specs.Evaluate.{Called, Setting, setting, enter_within}
 use Rattle.js_tree.specs.Static.{static_fault}
 use Rattle.js_tree.specs.ScriptRun.{ScriptResult, result_of, run_if_sound, run_all, first_world}
-use Rattle.js_value.specs.declared.value.Value.{Value}
+use Rattle.js_value.specs.declared.value.value.Value.{Value}
 use Rattle.js_eval.specs.declared.state.End.{End}
 use Rattle.js_eval.specs.declared.state.Stop.{Stop}
 use Rattle.js_eval.specs.declared.state.Stop.TheVariants.{Throw, Over, TooDeep, NoMemory}

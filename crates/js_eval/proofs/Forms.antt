@@ -12,7 +12,7 @@ use Rattle.js_tree.specs.declared.tree.ExprForm.TheVariants as form
 use Rattle.js_tree.specs.declared.tree.JsElse.{JsElse, fold-roll-JsElse}
 use Rattle.js_tree.specs.declared.tree.JsElse.TheVariants as form_e
 use Rattle.js_tree.specs.declared.tree.JsElseIf.{out-JsElseIf, fold_out-JsElseIf}
-use Rattle.js_value.specs.declared.value.Value as value_module
+use Rattle.js_value.specs.declared.value.value.Value as value_module
 use Rattle.js_eval.specs.Limited.{Deeper}
 use Rattle.js_eval.specs.declared.state.Stop.{Stop}
 use Rattle.js_eval.specs.declared.state.Flow.{Flow}

@@ -4,8 +4,8 @@ use Rattle.js_tree.specs.Script.{Name}
 use Rattle.js_tree.specs.Value.{holds}
 use Rattle.js_tree.specs.Value as run
 use Rattle.js_tree.specs.Evaluate.{bound}
-use Rattle.js_value.specs.Seen.{value_of, values_of}
-use Rattle.js_value.specs.declared.value.Value.{Value}
+use Rattle.js_value.specs.ValueSeen.{value_of, values_of}
+use Rattle.js_value.specs.declared.value.value.Value.{Value}
 
 pub holds-append : (x : Name) (xs ys : List Name) → holds x (xs ++ ys) ≡ cond (holds x xs) true (holds x ys)
 holds-append x [] ys = refl

@@ -12,9 +12,9 @@ use Rattle.js_tree.specs.declared.tree.JsStmts.{JsStmts}
 use Rattle.js_tree.specs.declared.tree.JsElse.{JsElse}
 use Rattle.js_tree.specs.declared.tree.JsCases.{JsCases}
 use Rattle.js_tree.specs.declared.tree.JsFunction.{JsFunction}
-use Rattle.js_value.specs.Seen.{value_of, entries_of, values_of}
-use Rattle.js_value.specs.declared.entries.Entry.{Entry}
-use Rattle.js_value.specs.declared.value.Value.{Value}
+use Rattle.js_value.specs.ValueSeen.{value_of, entries_of, values_of}
+use Rattle.js_value.specs.declared.value.entries.Entry.{Entry}
+use Rattle.js_value.specs.declared.value.value.Value.{Value}
 use Rattle.js_eval.specs.Limited.{Deeper, enter_limited}
 use Rattle.js_eval.specs.Seen.{world_of, setting_of, scope_of, frame_of}
 use Rattle.js_eval.specs.declared.world.World.{World}

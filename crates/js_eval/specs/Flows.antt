@@ -4,13 +4,13 @@ use Rattle.js_tree.specs.Script as tree
 use Rattle.js_tree.specs.View.{script_view}
 use Rattle.js_tree.specs.Value as run
 use Rattle.js_tree.specs.Evaluate as part
-use Rattle.js_value.specs.declared.value.Value.{Value}
+use Rattle.js_value.specs.declared.value.value.Value.{Value}
 use Rattle.js_eval.specs.declared.state.Context.{Context}
 use Rattle.js_eval.specs.declared.state.Flow.{Flow}
 use Rattle.js_eval.specs.declared.state.Stop.{Stop}
 use Rattle.js_eval.specs.declared.state.Tried.{Tried}
 use Rattle.js_eval.specs.declared.state.Tried.TheVariants as tried
-use Rattle.js_value.specs.Seen.{value_of}
+use Rattle.js_value.specs.ValueSeen.{value_of}
 use Rattle.js_eval.specs.Limited.{Deeper, enter_limited}
 use Rattle.js_eval.specs.Seen.{flow_of, option_value_of, setting_of, Gives, Stops}
 

@@ -11,7 +11,7 @@ use Rattle.js_eval.specs.declared.world.World.{World}
 use Rattle.js_eval.specs.declared.state.End.{End}
 use Rattle.js_eval.specs.declared.state.Stop.{Stop}
 use Rattle.js_eval.specs.declared.state.Stop.TheVariants as stop
-use Rattle.js_value.specs.declared.value.Value.{Value}
+use Rattle.js_value.specs.declared.value.value.Value.{Value}
 use Rattle.js_eval.specs.declared.start.ScriptRun.{ScriptRun}
 use Rattle.js_eval.specs.declared.start.RunRefusal.{RunRefusal}
 use Rattle.js_eval.specs.declared.start.RunRefusal.TheVariants as refusal

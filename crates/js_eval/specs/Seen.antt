@@ -6,9 +6,9 @@ use Rattle.js_tree.specs.Script as tree
 use Rattle.js_tree.specs.View.{script_view}
 use Rattle.js_tree.specs.Value as run
 use Rattle.js_tree.specs.Evaluate as run_part
-use Rattle.js_value.specs.Seen.{value_of, objects_of, entries_of}
-use Rattle.js_value.specs.declared.entries.Entry.{Entry}
-use Rattle.js_value.specs.declared.value.Value.{Value}
+use Rattle.js_value.specs.ValueSeen.{value_of, objects_of, entries_of}
+use Rattle.js_value.specs.declared.value.entries.Entry.{Entry}
+use Rattle.js_value.specs.declared.value.value.Value.{Value}
 use Rattle.js_eval.specs.Limited.{Deeper, limited}
 use Rattle.js_eval.specs.declared.world.World.{World}
 use Rattle.js_eval.specs.declared.state.End.{End}

@@ -3,7 +3,7 @@
 ghost use Rattle.std.specs.Prelude.{◌≡◌, ◌≤◌, ◌++◌, [], ◌∷◌, IfOk, None};
 ghost use Rattle.js_tree.specs.Value as run;
 ghost use Rattle.js_tree.specs.Evaluate as part;
-ghost use Rattle.js_value.specs.Seen.{value_of, values_of, entries_of};
+ghost use Rattle.js_value.specs.ValueSeen.{value_of, values_of, entries_of};
 ghost use Rattle.js_eval.specs.Seen.{world_of, host_of, option_value_of, setting_of, Does};
 ghost use Rattle.js_eval.specs.Flows.{picks};
 ghost use Rattle.js_eval.specs.Does.{HasParts};
@@ -13,9 +13,9 @@ use crate::state::{CallParts, Context, End, Stop};
 use crate::world::World;
 use gj_base::{NoMemory, Text};
 use js_tree::{ExprForm, JsExpr};
-use js_value::entries::Entry;
-use js_value::number::Number;
-use js_value::value::{Str, Value};
+use js_value::value::entries::Entry;
+use js_value::value::number::Number;
+use js_value::value::value::{Str, Value};
 use std::alloc::Global;
 
 /// Takes a tick, where one is left.

@@ -2,7 +2,7 @@
 
 ghost use Rattle.std.specs.Prelude.{◌≤◌, map};
 ghost use Rattle.js_tree.specs.View.{item_view, stmts_view};
-ghost use Rattle.js_value.specs.Seen.{value_of, values_of};
+ghost use Rattle.js_value.specs.ValueSeen.{value_of, values_of};
 ghost use Rattle.js_eval.specs.Seen.{Does, DoesIn, flow_of, option_value_of, frame_of};
 ghost use Rattle.js_eval.specs.Does.{pair_of, eval_of, eval_all_of, two_of, condition_of, call_of, dropped_of, call_value_of, enter_of, exec_of, exec_all_of, branch_of, when_of, cases_of, test_in, turns_in};
 ghost use Rattle.js_eval.specs.Weight.{stmts_weight, items_weight};
@@ -17,10 +17,10 @@ use crate::operate::{
 use crate::state::{Context, End, Flow, Loop, Scope, Stop, Tried};
 use crate::world::World;
 use js_tree::{ExprForm, JsCases, JsElse, JsExpr, JsExprs, JsFunction, JsStmt, JsStmts, StmtForm};
-use js_value::entries::Entry;
-use js_value::heap::Object;
-use js_value::operate::{char_code, decimal_text, one_byte, part_of, unary_value};
-use js_value::value::{Str, Value};
+use js_value::value::entries::Entry;
+use js_value::value::heap::Object;
+use js_value::value::operate::{char_code, decimal_text, one_byte, part_of, unary_value};
+use js_value::value::value::{Str, Value};
 
 /// The value of an expression: 11.
 #[cycle(evaluate)]

@@ -4,14 +4,14 @@ ghost use Rattle.std.specs.Prelude.{◌≡◌, IfOk, if◌then◌else◌, pos, t
 ghost use Rattle.js_tree.specs.Operation as defined;
 ghost use Rattle.js_tree.specs.Value as run;
 ghost use Rattle.js_tree.specs.Evaluate as part;
-ghost use Rattle.js_value.specs.Seen.{value_of};
+ghost use Rattle.js_value.specs.ValueSeen.{value_of};
 ghost use Rattle.js_eval.specs.Seen.{flow_of};
 ghost use Rattle.js_eval.specs.Flows.{leaves, turned, CompletesCall, Tries, Nests, IsNested};
 
 use crate::operate::is_number;
 use crate::state::{Context, End, Flow, Stop, Tried};
 use gj_base::Text;
-use js_value::value::Value;
+use js_value::value::value::Value;
 
 /// Whether the statements after one are left out.
 pub fn leaves(flow: &Flow) -> bool

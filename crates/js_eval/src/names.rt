@@ -4,7 +4,7 @@ ghost use Rattle.std.specs.Prelude.{◌≡◌, ◌≤◌, IfSome, IfOk, OnOk, ma
 ghost use Rattle.js_tree.specs.Value as defined;
 ghost use Rattle.js_tree.specs.Evaluate as part;
 ghost use Rattle.js_tree.specs.View.{function_view, item_view, stmts_view};
-ghost use Rattle.js_value.specs.Seen.{value_of, entries_of};
+ghost use Rattle.js_value.specs.ValueSeen.{value_of, entries_of};
 ghost use Rattle.js_eval.specs.Limited.{Deeper};
 ghost use Rattle.js_eval.specs.Seen.{names_of, host_of, flow_of, scope_of, setting_of, world_of, frame_of, DoesIn};
 ghost use Rattle.js_eval.specs.Weight.{stmts_weight, items_weight};
@@ -13,8 +13,8 @@ use crate::state::{Context, End, Flow, Scope, Stop};
 use crate::world::World;
 use gj_base::{NoMemory, Text};
 use js_tree::{JsFunction, JsItem};
-use js_value::entries::{self, Entry};
-use js_value::value::{Str, Value};
+use js_value::value::entries::{self, Entry};
+use js_value::value::value::{Str, Value};
 
 /// A function of the host.
 #[derive(Clone, Copy, Debug, PartialEq, Eq)]

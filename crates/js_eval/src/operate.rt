@@ -4,18 +4,18 @@ ghost use Rattle.std.specs.Prelude.{◌≡◌, pos, option_map, IfOk};
 ghost use Rattle.js_tree.specs.Operation as defined;
 ghost use Rattle.js_tree.specs.Evaluate as part;
 ghost use Rattle.js_tree.specs.Value as run;
-ghost use Rattle.js_value.specs.Seen.{value_of, objects_of, object_of};
+ghost use Rattle.js_value.specs.ValueSeen.{value_of, objects_of, object_of};
 ghost use Rattle.js_eval.specs.Seen.{world_of, flow_of, frame_of, Does, DoesIn, DoesAnywhere};
 
 use crate::state::{End, Flow, Stop};
 use crate::world::World;
 use gj_base::NoMemory;
 use js_tree::BinaryOp;
-use js_value::arithmetic;
-use js_value::entries::Entry;
-use js_value::heap::{self, Object};
-use js_value::operate::on_values;
-use js_value::value::{Value, same_value};
+use js_value::value::arithmetic;
+use js_value::value::entries::Entry;
+use js_value::value::heap::{self, Object};
+use js_value::value::operate::on_values;
+use js_value::value::value::{Value, same_value};
 use std::alloc::Global;
 
 /// A value that may be missing: without it the operation at the offset has no meaning.

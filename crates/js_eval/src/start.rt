@@ -12,7 +12,7 @@ use crate::state::{Context, End, Scope, Stop};
 use crate::world::World;
 use gj_base::{NoMemory, Text};
 use js_tree::{JsItem, Script};
-use js_value::value::Value;
+use js_value::value::value::Value;
 use std::alloc::Global;
 
 /// What was printed, how many numbers and ticks were taken, and how the run ended.

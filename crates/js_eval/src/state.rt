@@ -2,7 +2,7 @@
 
 use gj_base::{NoMemory, Text};
 use js_tree::{JsExpr, JsExprs, JsStmts, Script};
-use js_value::value::Value;
+use js_value::value::value::Value;
 use std::alloc::{AllocError, AllocFailed, Global};
 
 /// How a run ends.

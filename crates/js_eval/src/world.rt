@@ -2,8 +2,8 @@
 
 ghost use Rattle.std.specs.Prelude.{◌+◌, ◌<◌, ◌^◌};
 
-use js_value::entries::Entry;
-use js_value::heap::Object;
+use js_value::value::entries::Entry;
+use js_value::value::heap::Object;
 
 /// What a run keeps.
 #[derive(Drop)]

@@ -10,13 +10,13 @@ ghost use Rattle.js_grammar.specs.Reads.{Reads, seen};
 ghost use Rattle.js_nodes.specs.Views.{expr_read, post_read, exprs_read};
 
 use js_grammar::{ReadRefusal, Token};
-use js_nodes::infix::{earlier, infix_level, joined, next_infix, unary_op};
-use js_nodes::literal::literal;
-use js_nodes::look::{
+use js_nodes::nodes::infix::{earlier, infix_level, joined, next_infix, unary_op};
+use js_nodes::nodes::literal::literal;
+use js_nodes::nodes::look::{
     begins_part, is_second_sign, is_second_word, is_sign, is_word, place, take_operator, take_sign,
     take_word,
 };
-use js_nodes::node;
+use js_nodes::nodes::node;
 use js_tree::JsExpr;
 use std::alloc::Global;
 

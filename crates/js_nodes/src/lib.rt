@@ -1,9 +1,7 @@
-//! The parts of the script reader that read single tokens, and the nodes of the expressions that it
-//! makes.
+//! Nodes of script trees, each made from its parts.
+//!
+//! ECMA-262 5.1, sections 11 and 12, cut to a subset (docs/SCRIPT.md).
 #![tactic(auto)]
 
-pub mod infix;
-pub mod literal;
-pub mod look;
-pub mod node;
-mod part;
+pub mod nodes;
+pub mod stmt_nodes;

@@ -14,9 +14,9 @@ ghost use Rattle.js_nodes.specs.Views.{rest_read, expr_read, stmt_read, label_re
 use gj_base::Text;
 use js_expr::{enclosed, expr, post};
 use js_grammar::{ReadRefusal, Token, syntax};
-use js_nodes::literal::{names, take_own_name};
-use js_nodes::look::{is_push, is_sign, is_word, place, take_sign, take_word};
-use js_stmt_nodes::node_stmt as node;
+use js_nodes::nodes::literal::{names, take_own_name};
+use js_nodes::nodes::look::{is_push, is_sign, is_word, place, take_sign, take_word};
+use js_nodes::stmt_nodes::node_stmt as node;
 use js_tree::{JsExpr, JsStmt};
 use std::alloc::Global;
 

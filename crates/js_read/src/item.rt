@@ -13,9 +13,9 @@ use crate::effect::declaration;
 use crate::stmt::{all, block};
 use gj_base::Text;
 use js_grammar::{ReadRefusal, Token, laws, syntax};
-use js_nodes::literal::{take_name, take_own_name};
-use js_nodes::look::{is_sign, is_word, place, take_sign, take_word};
-use js_stmt_nodes::node_item as node;
+use js_nodes::nodes::literal::{take_name, take_own_name};
+use js_nodes::nodes::look::{is_sign, is_word, place, take_sign, take_word};
+use js_nodes::stmt_nodes::node_item as node;
 use js_tree::{JsFunction, JsItem, Script};
 use std::alloc::Global;
 

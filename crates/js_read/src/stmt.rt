@@ -14,11 +14,11 @@ use crate::effect::{effect, forever, simple, tested};
 use gj_base::Text;
 use js_expr::expr;
 use js_grammar::{ReadRefusal, Token};
-use js_nodes::literal::{names, take_number, take_own_name};
-use js_nodes::look::{
+use js_nodes::nodes::literal::{names, take_number, take_own_name};
+use js_nodes::nodes::look::{
     begins_atom, ends_statements, is_second_sign, is_sign, is_word, place, take_sign, take_word,
 };
-use js_stmt_nodes::node_stmt as node;
+use js_nodes::stmt_nodes::node_stmt as node;
 use js_tree::{JsCase, JsCases, JsElse, JsStmt, JsStmts};
 use std::alloc::Global;
 

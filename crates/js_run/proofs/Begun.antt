@@ -12,19 +12,19 @@ use Rattle.js_tree.specs.Value.{Value, World}
 use Rattle.js_tree.specs.Evaluate.{setting}
 use Rattle.js_tree.specs.Static.{static_fault}
 use Rattle.js_tree.specs.ScriptRun.{script_run, run_if_sound, run_all, result_of}
-use Rattle.js_slots.specs.Names.{distinct, global_names}
-use Rattle.js_slots.specs.Slots.{slots_of}
-use Rattle.js_heap.specs.Seen.{objects_of}
-use Rattle.js_heap.specs.declared.value.Value as held
+use Rattle.js_code.specs.Names.{distinct, global_names}
+use Rattle.js_code.specs.Slots.{slots_of}
+use Rattle.js_value.specs.HeapSeen.{objects_of}
+use Rattle.js_value.specs.declared.heap.value.Value as held
 use Rattle.js_simple.specs.Seen.{slots_in}
-use Rattle.js_bodies.specs.Bodies.{IsBody, IsValueBody, names_in, names_of_it}
-use Rattle.js_bodies.specs.declared.body.Body.{Body}
-use Rattle.js_frames.specs.declared.state.State.{State}
-use Rattle.js_frames.specs.Stands.{Variables}
-use Rattle.js_walks.specs.WalkLaws.{moves_none, appended_none}
-use Rattle.js_run.specs.declared.answer.RunEnd.{RunEnd}
-use Rattle.js_run.specs.declared.answer.RunRefusal.{RunRefusal}
-use Rattle.js_run.specs.declared.answer.RunRefusal.TheVariants.{NoMemory}
+use Rattle.js_steps.specs.Bodies.{IsBody, IsValueBody, names_in, names_of_it}
+use Rattle.js_steps.specs.declared.bodies.body.Body.{Body}
+use Rattle.js_steps.specs.declared.frames.state.State.{State}
+use Rattle.js_steps.specs.Stands.{Variables}
+use Rattle.js_run.specs.WalkLaws.{moves_none, appended_none}
+use Rattle.js_run.specs.declared.whole.answer.RunEnd.{RunEnd}
+use Rattle.js_run.specs.declared.whole.answer.RunRefusal.{RunRefusal}
+use Rattle.js_run.specs.declared.whole.answer.RunRefusal.TheVariants.{NoMemory}
 use Rattle.js_run.specs.Firsts.{IsFirstState}
 use Rattle.js_run.specs.Points.{Reached, beginning, items_left, value_then, call_left}
 use Rattle.js_run.specs.Runs.{RunsAs}

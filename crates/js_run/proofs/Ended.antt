@@ -8,14 +8,14 @@ use Rattle.js_tree.specs.Script.{ScriptTree}
 use Rattle.js_tree.specs.Value as run
 use Rattle.js_tree.specs.Static.{static_fault}
 use Rattle.js_tree.specs.ScriptRun.{ScriptResult, run_if_sound}
-use Rattle.js_frames.specs.declared.frame.End.{End}
-use Rattle.js_frames.specs.Stack.{end_of}
-use Rattle.js_frames.specs.declared.state.State.{State}
-use Rattle.js_walks.specs.declared.stop.Stop.TheVariants as stop
-use Rattle.js_walks.specs.WalkLaws.{appended_none}
-use Rattle.js_run.specs.declared.answer.RunEnd.{RunEnd}
-use Rattle.js_run.specs.declared.answer.RunRefusal.{RunRefusal}
-use Rattle.js_run.specs.declared.answer.RunRefusal.TheVariants as refusal
+use Rattle.js_steps.specs.declared.frames.frame.End.{End}
+use Rattle.js_steps.specs.Stack.{end_of}
+use Rattle.js_steps.specs.declared.frames.state.State.{State}
+use Rattle.js_run.specs.declared.walks.stop.Stop.TheVariants as stop
+use Rattle.js_run.specs.WalkLaws.{appended_none}
+use Rattle.js_run.specs.declared.whole.answer.RunEnd.{RunEnd}
+use Rattle.js_run.specs.declared.whole.answer.RunRefusal.{RunRefusal}
+use Rattle.js_run.specs.declared.whole.answer.RunRefusal.TheVariants as refusal
 use Rattle.js_run.specs.Points.{Reached, Stopped, nothing_left}
 use Rattle.js_run.specs.Runs.{RunsAs, Ran, end_in}
 

@@ -12,18 +12,18 @@ use Rattle.js_tree.specs.ScriptRun as whole
 use Rattle.js_tree.specs.ScriptRun.{script_run, result_of, set_globals, call_start, top_scope}
 use Rattle.js_tree.specs.Ticks.{worlds, world_in}
 use Rattle.js_tree.specs.Steady.{steady_eval, steady_call, grows}
-use Rattle.js_slots.specs.Names.{distinct, global_names}
-use Rattle.js_slots.specs.Slots.{slots_of}
-use Rattle.js_heap.specs.Seen.{value_of, objects_of}
-use Rattle.js_heap.specs.declared.value.Value as held
+use Rattle.js_code.specs.Names.{distinct, global_names}
+use Rattle.js_code.specs.Slots.{slots_of}
+use Rattle.js_value.specs.HeapSeen.{value_of, objects_of}
+use Rattle.js_value.specs.declared.heap.value.Value as held
 use Rattle.js_simple.specs.Seen.{slots_in}
-use Rattle.js_bodies.specs.Bodies.{IsBody, names_in}
-use Rattle.js_bodies.specs.declared.body.Body.{Body}
-use Rattle.js_frames.specs.declared.state.State.{State}
-use Rattle.js_frames.specs.Stands.{Before, Variables, world_of}
-use Rattle.js_operands.specs.SetLaws.{SameRest, global_rest}
-use Rattle.js_operands.specs.VariableLaws.{slot_set, only_globals}
-use Rattle.js_run.specs.declared.prepare.First.{First}
+use Rattle.js_steps.specs.Bodies.{IsBody, names_in}
+use Rattle.js_steps.specs.declared.bodies.body.Body.{Body}
+use Rattle.js_steps.specs.declared.frames.state.State.{State}
+use Rattle.js_steps.specs.Stands.{Before, Variables, world_of}
+use Rattle.js_steps.specs.SetLaws.{SameRest, global_rest}
+use Rattle.js_steps.specs.VariableLaws.{slot_set, only_globals}
+use Rattle.js_run.specs.declared.whole.prepare.First.{First}
 use Rattle.js_run.specs.Firsts.{IsFirst, AreFirsts}
 use Rattle.js_run.specs.Points.{Rest, PrintsOn, Reached, items_left, value_then}
 use Rattle.js_run.proofs.Halts.{begins_same, begins_then}

@@ -9,17 +9,17 @@ use Rattle.js_tree.specs.Value as run
 use Rattle.js_tree.specs.Value.{World, over}
 use Rattle.js_tree.specs.Evaluate.{choice_number}
 use Rattle.js_tree.specs.ScriptRun.{script_run, result_of}
-use Rattle.js_frames.specs.declared.frame.Frame.{Frame}
-use Rattle.js_frames.specs.declared.state.State.{State}
-use Rattle.js_frames.specs.Moment.{Out}
-use Rattle.js_frames.specs.Stack.{end_of}
-use Rattle.js_frames.specs.Stands.{Before, world_of}
-use Rattle.js_walks.specs.declared.stop.Stop.{Stop}
-use Rattle.js_walks.specs.declared.stop.Stop.TheVariants.{WriteFault, NoMemory, Over}
-use Rattle.js_walks.specs.Stays.{world_at}
-use Rattle.js_walks.specs.Walks.{Agrees, Moves, Goes}
-use Rattle.js_walks.specs.WalkLaws.{moves_then, agrees_first, agrees_second}
-use Rattle.js_walks.specs.GrowthLaws.{reached_begins, text_begins}
+use Rattle.js_steps.specs.declared.frames.frame.Frame.{Frame}
+use Rattle.js_steps.specs.declared.frames.state.State.{State}
+use Rattle.js_steps.specs.Moment.{Out}
+use Rattle.js_steps.specs.Stack.{end_of}
+use Rattle.js_steps.specs.Stands.{Before, world_of}
+use Rattle.js_run.specs.declared.walks.stop.Stop.{Stop}
+use Rattle.js_run.specs.declared.walks.stop.Stop.TheVariants.{WriteFault, NoMemory, Over}
+use Rattle.js_run.specs.Stays.{world_at}
+use Rattle.js_run.specs.Walks.{Agrees, Moves, Goes}
+use Rattle.js_run.specs.WalkLaws.{moves_then, agrees_first, agrees_second}
+use Rattle.js_run.specs.GrowthLaws.{reached_begins, text_begins}
 use Rattle.js_run.specs.Runs.{BeginsWith}
 use Rattle.js_run.specs.Points.{Stops, beginning}
 

@@ -1,3 +1,5 @@
+pub mod Prints
+pub mod Tops
 pub mod Halts
 pub mod Values
 pub mod Globals

@@ -6,9 +6,9 @@ use Rattle.std.specs.Prelude.{Some}
 use Rattle.js_tree.specs.Script.{Name, Expr, Item, function_item, global_item, ScriptTree}
 use Rattle.js_tree.specs.View.{item_view}
 use Rattle.js_tree.specs.declared.tree.JsItem.{JsItem}
-use Rattle.js_slots.specs.Names.{distinct, index_in, global_names}
-use Rattle.js_bodies.specs.Bodies.{IsValueBody}
-use Rattle.js_run.specs.declared.prepare.First.{First}
+use Rattle.js_code.specs.Names.{distinct, index_in, global_names}
+use Rattle.js_steps.specs.Bodies.{IsValueBody}
+use Rattle.js_run.specs.declared.whole.prepare.First.{First}
 use Rattle.js_run.specs.Firsts.{IsFirst, AreFirsts, AddsFirst}
 
 first_last : (script : ScriptTree) (items : List Item) (fs : List First) (at : ℕ) (x : Name) (e : Expr) (f : First) → AreFirsts script items fs → IsFirst script f x e

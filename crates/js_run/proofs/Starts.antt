@@ -10,26 +10,26 @@ use Rattle.js_tree.specs.Value.{Value, gives, throws, over}
 use Rattle.js_tree.specs.Evaluate.{Setting, Called, setting, call_value}
 use Rattle.js_tree.specs.ScriptRun as whole
 use Rattle.js_tree.specs.ScriptRun.{ScriptResult, script_run, result_of}
-use Rattle.js_heap.specs.Seen.{values_of}
-use Rattle.js_heap.specs.declared.value.Value as held
-use Rattle.js_bodies.specs.Bodies.{IsProgram}
-use Rattle.js_frames.specs.declared.frame.Frame.{Frame}
-use Rattle.js_frames.specs.declared.frame.Halt.{Halt}
-use Rattle.js_frames.specs.declared.frame.Halt.TheVariants as halt
-use Rattle.js_frames.specs.declared.frame.Task.{Task}
-use Rattle.js_frames.specs.declared.frame.Task.TheVariants as next
-use Rattle.js_frames.specs.declared.frame.Use.TheVariants.{Dropped}
-use Rattle.js_frames.specs.declared.state.Env.{Env}
-use Rattle.js_frames.specs.declared.state.State.{State}
-use Rattle.js_frames.specs.Moment.{Moment, Out, called_here}
-use Rattle.js_frames.specs.Stack.{end_of, resume, task_does}
-use Rattle.js_frames.specs.Stands.{Stands, StepsIn, moment, world_of}
-use Rattle.js_walks.specs.declared.stop.Stop.{Stop}
-use Rattle.js_walks.specs.Stays.{world_at}
-use Rattle.js_walks.specs.Stops.{stop_of}
-use Rattle.js_walks.specs.Walks.{Goes, Walks}
-use Rattle.js_walks.specs.WalkLaws.{moves_none, moves_then, walks_then}
-use Rattle.js_turns.specs.Ends.{IsAnswer}
+use Rattle.js_value.specs.HeapSeen.{values_of}
+use Rattle.js_value.specs.declared.heap.value.Value as held
+use Rattle.js_steps.specs.Bodies.{IsProgram}
+use Rattle.js_steps.specs.declared.frames.frame.Frame.{Frame}
+use Rattle.js_steps.specs.declared.frames.frame.Halt.{Halt}
+use Rattle.js_steps.specs.declared.frames.frame.Halt.TheVariants as halt
+use Rattle.js_steps.specs.declared.frames.frame.Task.{Task}
+use Rattle.js_steps.specs.declared.frames.frame.Task.TheVariants as next
+use Rattle.js_steps.specs.declared.frames.frame.Use.TheVariants.{Dropped}
+use Rattle.js_steps.specs.declared.frames.state.Env.{Env}
+use Rattle.js_steps.specs.declared.frames.state.State.{State}
+use Rattle.js_steps.specs.Moment.{Moment, Out, called_here}
+use Rattle.js_steps.specs.Stack.{end_of, resume, task_does}
+use Rattle.js_steps.specs.Stands.{Stands, StepsIn, moment, world_of}
+use Rattle.js_run.specs.declared.walks.stop.Stop.{Stop}
+use Rattle.js_run.specs.Stays.{world_at}
+use Rattle.js_run.specs.Stops.{stop_of}
+use Rattle.js_run.specs.Walks.{Goes, Walks}
+use Rattle.js_run.specs.WalkLaws.{moves_none, moves_then, walks_then}
+use Rattle.js_run.specs.Ends.{IsAnswer}
 use Rattle.js_run.specs.Runs.{BeginsWith}
 use Rattle.js_run.specs.Points.{Point, Reached, Stopped, Stage, beginning, call_left, nothing_left, return_in}
 use Rattle.js_run.proofs.Halts.{ComesTo, begins_same, begins_first, agrees_rest, stops}

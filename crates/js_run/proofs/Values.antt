@@ -12,27 +12,27 @@ use Rattle.js_tree.specs.Value.{Value, World, Outcome, gives, throws, over, and_
 use Rattle.js_tree.specs.Evaluate.{Scope, Called, setting, eval}
 use Rattle.js_tree.specs.ScriptRun as whole
 use Rattle.js_tree.specs.ScriptRun.{ScriptResult, script_run, result_of, top_scope}
-use Rattle.js_slots.specs.Names.{distinct}
-use Rattle.js_slots.specs.Slots.{slots_of}
+use Rattle.js_code.specs.Names.{distinct}
+use Rattle.js_code.specs.Slots.{slots_of}
 use Rattle.js_code.specs.Parts.{expr_at, trees_of}
-use Rattle.js_heap.specs.Seen.{value_of, objects_of}
-use Rattle.js_heap.specs.declared.value.Value as held
+use Rattle.js_value.specs.HeapSeen.{value_of, objects_of}
+use Rattle.js_value.specs.declared.heap.value.Value as held
 use Rattle.js_simple.specs.Seen.{slots_in}
-use Rattle.js_bodies.specs.Bodies.{IsBody, IsProgram, IsValueBody, names_in, names_of_it}
-use Rattle.js_bodies.specs.declared.body.Body.{Body}
-use Rattle.js_frames.specs.declared.frame.Frame.{Frame}
-use Rattle.js_frames.specs.declared.frame.Task.{Task}
-use Rattle.js_frames.specs.declared.frame.Task.TheVariants as next
-use Rattle.js_frames.specs.declared.state.Env.{Env}
-use Rattle.js_frames.specs.declared.state.State.{State}
-use Rattle.js_frames.specs.Moment.{Moment, value, flow, Out, valued}
-use Rattle.js_frames.specs.Stack.{scope_in, resume, task_does}
-use Rattle.js_frames.specs.Stands.{Before, Variables, Stands, moment, world_of}
-use Rattle.js_walks.specs.declared.stop.Stop.{Stop}
-use Rattle.js_walks.specs.Stays.{world_at}
-use Rattle.js_walks.specs.Walks.{Goes, Walks}
-use Rattle.js_walks.specs.WalkLaws.{moves_then}
-use Rattle.js_turns.specs.Ends.{IsAnswer}
+use Rattle.js_steps.specs.Bodies.{IsBody, IsProgram, IsValueBody, names_in, names_of_it}
+use Rattle.js_steps.specs.declared.bodies.body.Body.{Body}
+use Rattle.js_steps.specs.declared.frames.frame.Frame.{Frame}
+use Rattle.js_steps.specs.declared.frames.frame.Task.{Task}
+use Rattle.js_steps.specs.declared.frames.frame.Task.TheVariants as next
+use Rattle.js_steps.specs.declared.frames.state.Env.{Env}
+use Rattle.js_steps.specs.declared.frames.state.State.{State}
+use Rattle.js_steps.specs.Moment.{Moment, value, flow, Out, valued}
+use Rattle.js_steps.specs.Stack.{scope_in, resume, task_does}
+use Rattle.js_steps.specs.Stands.{Before, Variables, Stands, moment, world_of}
+use Rattle.js_run.specs.declared.walks.stop.Stop.{Stop}
+use Rattle.js_run.specs.Stays.{world_at}
+use Rattle.js_run.specs.Walks.{Goes, Walks}
+use Rattle.js_run.specs.WalkLaws.{moves_then}
+use Rattle.js_run.specs.Ends.{IsAnswer}
 use Rattle.js_run.specs.Runs.{BeginsWith}
 use Rattle.js_run.specs.Points.{Rest, PrintsOn, Point, Reached, Stopped, Stage, IsOutside, beginning, value_then, value_in}
 use Rattle.js_run.proofs.Halts.{ComesTo, begins_same, begins_first, agrees_rest, stops}

@@ -2,12 +2,12 @@
 use Rattle.std.specs.Prelude.{◌≡◌, ◌++◌, ℕ, List, [], ◌∷◌, Some, None, length, replicate}
 use Rattle.std.specs.Borrow.{Bor}
 use Rattle.js_tree.specs.Script.{Name, Expr, Item, function_item, global_item, ScriptTree}
-use Rattle.js_slots.specs.Names.{distinct, index_in, global_names}
-use Rattle.js_bodies.specs.Bodies.{IsProgram, IsValueBody}
-use Rattle.js_bodies.specs.declared.body.Body.{Body}
-use Rattle.js_frames.specs.declared.state.State.{State}
-use Rattle.js_run.specs.declared.prepare.First.{First}
-use Rattle.js_run.specs.declared.prepare.Prepared.{Prepared}
+use Rattle.js_code.specs.Names.{distinct, index_in, global_names}
+use Rattle.js_steps.specs.Bodies.{IsProgram, IsValueBody}
+use Rattle.js_steps.specs.declared.bodies.body.Body.{Body}
+use Rattle.js_steps.specs.declared.frames.state.State.{State}
+use Rattle.js_run.specs.declared.whole.prepare.First.{First}
+use Rattle.js_run.specs.declared.whole.prepare.Prepared.{Prepared}
 
 -- the code of a variable's first value, with its slot
 pub record IsFirst (script : ScriptTree) (f : First) (x : Name) (e : Expr) : Type 0 where

@@ -1,3 +1,9 @@
+pub mod Stops
+pub mod Walks
+pub mod Stays
+pub mod WalkLaws
+pub mod GrowthLaws
+pub mod Ends
 pub mod Runs
 pub mod Points
 pub mod Firsts

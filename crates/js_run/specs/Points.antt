@@ -8,18 +8,18 @@ use Rattle.js_tree.specs.Value.{Value, World, gives, over, and_then}
 use Rattle.js_tree.specs.Evaluate.{Setting, setting, Called, eval, call_value}
 use Rattle.js_tree.specs.ScriptRun as whole
 use Rattle.js_tree.specs.ScriptRun.{script_run, result_of, set_globals, call_start, top_scope}
-use Rattle.js_heap.specs.declared.value.Value as held
-use Rattle.js_bodies.specs.declared.body.Body.{Body}
-use Rattle.js_frames.specs.declared.frame.End.{End}
-use Rattle.js_frames.specs.declared.frame.End.TheVariants.{Stuck}
-use Rattle.js_frames.specs.declared.frame.Task.{Task}
-use Rattle.js_frames.specs.declared.frame.Task.TheVariants.{Give, Throw}
-use Rattle.js_frames.specs.declared.state.State.{State}
-use Rattle.js_frames.specs.Stack.{end_of}
-use Rattle.js_frames.specs.Stands.{Before, Variables, Stands, world_of}
-use Rattle.js_walks.specs.declared.stop.Stop.{Stop}
-use Rattle.js_walks.specs.declared.stop.Stop.TheVariants.{WriteFault, NoMemory, Over}
-use Rattle.js_walks.specs.Walks.{Moves}
+use Rattle.js_value.specs.declared.heap.value.Value as held
+use Rattle.js_steps.specs.declared.bodies.body.Body.{Body}
+use Rattle.js_steps.specs.declared.frames.frame.End.{End}
+use Rattle.js_steps.specs.declared.frames.frame.End.TheVariants.{Stuck}
+use Rattle.js_steps.specs.declared.frames.frame.Task.{Task}
+use Rattle.js_steps.specs.declared.frames.frame.Task.TheVariants.{Give, Throw}
+use Rattle.js_steps.specs.declared.frames.state.State.{State}
+use Rattle.js_steps.specs.Stack.{end_of}
+use Rattle.js_steps.specs.Stands.{Before, Variables, Stands, world_of}
+use Rattle.js_run.specs.declared.walks.stop.Stop.{Stop}
+use Rattle.js_run.specs.declared.walks.stop.Stop.TheVariants.{WriteFault, NoMemory, Over}
+use Rattle.js_run.specs.Walks.{Moves}
 use Rattle.js_run.specs.Runs.{BeginsWith, FailedRun, CutRun}
 
 -- what is left of a run

@@ -6,10 +6,10 @@ use Rattle.js_tree.specs.Script.{ScriptTree}
 use Rattle.js_tree.specs.Value.{End, Going, Ended, Stuck}
 use Rattle.js_tree.specs.Evaluate.{choice_number}
 use Rattle.js_tree.specs.ScriptRun.{ScriptResult, script_run}
-use Rattle.js_run.specs.declared.answer.RunEnd.{RunEnd}
-use Rattle.js_run.specs.declared.answer.RunEnd.TheVariants as run_end
-use Rattle.js_run.specs.declared.answer.RunRefusal.{RunRefusal}
-use Rattle.js_run.specs.declared.answer.RunRefusal.TheVariants.{WriteFault, NoMemory}
+use Rattle.js_run.specs.declared.whole.answer.RunEnd.{RunEnd}
+use Rattle.js_run.specs.declared.whole.answer.RunEnd.TheVariants as run_end
+use Rattle.js_run.specs.declared.whole.answer.RunRefusal.{RunRefusal}
+use Rattle.js_run.specs.declared.whole.answer.RunRefusal.TheVariants.{WriteFault, NoMemory}
 
 abbrev pub end_in : RunEnd → End
 end_in (run_end.Ended status text) = Ended status text

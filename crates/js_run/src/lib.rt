@@ -1,11 +1,10 @@
-//! The runner of scripts: exactly their meaning, on a stack of its own. ECMA-262 5.1, cut to a
-//! subset.
+//! The run of a script: calls of the host, one turn after the other, and the whole.
+//!
+//! ECMA-262 5.1, section 14 "Program", cut to a subset (docs/SCRIPT.md).
 #![tactic(auto)]
 
-pub mod answer;
-pub mod prepare;
-pub mod script;
-pub mod start;
+pub mod turns;
+pub mod walks;
+pub mod whole;
 
-pub use answer::{RunEnd, RunRefusal};
-pub use script::run;
+pub use whole::{RunEnd, RunRefusal, run};

@@ -7,18 +7,18 @@ use Rattle.js_tree.specs.Script.{Name, Expr}
 use Rattle.js_tree.specs.Value as run
 use Rattle.js_tree.specs.Value.{World, Outcome, gives, given, nothing, function}
 use Rattle.js_tree.specs.Evaluate.{eval}
-use Rattle.js_slots.specs.declared.place.Place.{Place}
-use Rattle.js_slots.specs.declared.place.Place.TheVariants.{Host, Function as in_function}
-use Rattle.js_slots.specs.declared.place.Host as host
-use Rattle.js_slots.specs.Places.{table_of}
-use Rattle.js_slots.specs.Slots.{value_at}
+use Rattle.js_code.specs.declared.slots.place.Place.{Place}
+use Rattle.js_code.specs.declared.slots.place.Place.TheVariants.{Host, Function as in_function}
+use Rattle.js_code.specs.declared.slots.place.Host as host
+use Rattle.js_code.specs.Places.{table_of}
+use Rattle.js_code.specs.Slots.{value_at}
 use Rattle.js_code.specs.Held.{part_of}
 use Rattle.js_code.specs.Parts.{name, as_expr, expr_at, tree_of, trees_of}
 use Rattle.js_code.specs.Parts
-use Rattle.js_code.specs.declared.part.Part.{Part}
-use Rattle.js_heap.specs.Seen.{value_of}
-use Rattle.js_heap.specs.declared.heap.Object.{Object}
-use Rattle.js_heap.specs.declared.value.Value.{Value}
+use Rattle.js_code.specs.declared.code.part.Part.{Part}
+use Rattle.js_value.specs.HeapSeen.{value_of}
+use Rattle.js_value.specs.declared.heap.heap.Object.{Object}
+use Rattle.js_value.specs.declared.heap.value.Value.{Value}
 use Rattle.js_simple.specs.declared.state.Context.{Context}
 use Rattle.js_simple.specs.declared.state.Halt.{Halt}
 use Rattle.js_simple.specs.Simple.{is_simple, IsSomeCode, IsSimpleAt, IsSimplePart}

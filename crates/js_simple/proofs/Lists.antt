@@ -8,11 +8,11 @@ use Rattle.std.proofs.lemmas.Option.{slice_get_past}
 use Rattle.js_tree.specs.Script.{Exprs, no_exprs}
 use Rattle.js_tree.specs.Value.{Value, World, gives, and_then}
 use Rattle.js_tree.specs.Evaluate.{eval_all}
-use Rattle.js_slots.specs.Places.{table_of}
+use Rattle.js_code.specs.Places.{table_of}
 use Rattle.js_code.specs.Held.{part_of}
 use Rattle.js_code.specs.Parts.{Part, Tree, as_exprs, expr_at, exprs_at, tree_of, with_tree, trees_of}
-use Rattle.js_code.specs.declared.part.Part as kept
-use Rattle.js_code.specs.declared.part.Part.TheVariants.{More}
+use Rattle.js_code.specs.declared.code.part.Part as kept
+use Rattle.js_code.specs.declared.code.part.Part.TheVariants.{More}
 use Rattle.js_simple.specs.declared.list.Cell.{Cell}
 use Rattle.js_simple.specs.declared.state.Context.{Context}
 use Rattle.js_simple.specs.Simple.{is_simple, are_simple, IsSomeCode, IsSimpleAt, AreSimpleAt}

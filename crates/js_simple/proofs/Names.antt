@@ -5,17 +5,17 @@ use Rattle.js_tree.specs.Script.{Name}
 use Rattle.js_tree.specs.Value.{function, given}
 use Rattle.js_tree.specs.Evaluate as run
 use Rattle.js_tree.specs.Evaluate.{host_named, eval}
-use Rattle.js_slots.specs.declared.place.Place.{Place}
-use Rattle.js_slots.specs.declared.place.Place.TheVariants.{Caught, Local, Host, Function as in_function, Global, Nowhere}
-use Rattle.js_slots.specs.declared.place.Host as host
-use Rattle.js_slots.specs.Names.{index_in, distinct, global_names}
-use Rattle.js_slots.specs.Places.{Table, table_of, placed, place_of, host_here, global_place}
-use Rattle.js_slots.specs.Slots.{slots_of, host_value, value_at}
-use Rattle.js_slots.specs.NameLaws.{same_name, index_found}
-use Rattle.js_slots.specs.SlotLaws.{reads_slots}
+use Rattle.js_code.specs.declared.slots.place.Place.{Place}
+use Rattle.js_code.specs.declared.slots.place.Place.TheVariants.{Caught, Local, Host, Function as in_function, Global, Nowhere}
+use Rattle.js_code.specs.declared.slots.place.Host as host
+use Rattle.js_code.specs.Names.{index_in, distinct, global_names}
+use Rattle.js_code.specs.Places.{Table, table_of, placed, place_of, host_here, global_place}
+use Rattle.js_code.specs.Slots.{slots_of, host_value, value_at}
+use Rattle.js_code.specs.NameLaws.{same_name, index_found}
+use Rattle.js_code.specs.SlotLaws.{reads_slots}
 use Rattle.js_code.specs.Parts.{name}
-use Rattle.js_heap.specs.Seen.{value_of}
-use Rattle.js_heap.specs.declared.heap.Object.{Object}
+use Rattle.js_value.specs.HeapSeen.{value_of}
+use Rattle.js_value.specs.declared.heap.heap.Object.{Object}
 use Rattle.js_simple.specs.declared.state.Context.{Context}
 use Rattle.js_simple.specs.Seen.{Point, Stands, slots_in, world_with}
 

@@ -8,15 +8,15 @@ use Rattle.js_tree.specs.Script.{Name}
 use Rattle.js_tree.specs.Value as run
 use Rattle.js_tree.specs.Value.{World, Outcome, gives, given, and_then}
 use Rattle.js_tree.specs.Evaluate.{eval}
-use Rattle.js_slots.specs.declared.place.Place.{Place}
-use Rattle.js_slots.specs.Places.{table_of}
-use Rattle.js_slots.specs.Slots.{value_at}
+use Rattle.js_code.specs.declared.slots.place.Place.{Place}
+use Rattle.js_code.specs.Places.{table_of}
+use Rattle.js_code.specs.Slots.{value_at}
 use Rattle.js_code.specs.Held.{part_of}
 use Rattle.js_code.specs.Parts.{name, as_expr, tree_of, trees_of}
 use Rattle.js_code.specs.Parts
-use Rattle.js_code.specs.declared.part.Part.{Part}
-use Rattle.js_heap.specs.Seen.{value_of, objects_of}
-use Rattle.js_heap.specs.declared.heap.Object.{Object}
+use Rattle.js_code.specs.declared.code.part.Part.{Part}
+use Rattle.js_value.specs.HeapSeen.{value_of, objects_of}
+use Rattle.js_value.specs.declared.heap.heap.Object.{Object}
 use Rattle.js_simple.specs.declared.state.Context.{Context}
 use Rattle.js_simple.specs.Seen.{Point, Stands, slots_in, world_with}
 use Rattle.js_simple.specs.PartDoes.{eval_at, eval_part, expr_in, value_does}

@@ -5,7 +5,7 @@ use Rattle.js_tree.specs.Value.{Value, World, Outcome, gives, and_then}
 use Rattle.js_tree.specs.Evaluate.{eval, eval_all, truth_of}
 use Rattle.js_code.specs.Held.{part_of}
 use Rattle.js_code.specs.Parts.{as_expr, expr_at, exprs_at, tree_of, trees_of}
-use Rattle.js_code.specs.declared.part.Part.{Part}
+use Rattle.js_code.specs.declared.code.part.Part.{Part}
 use Rattle.js_simple.specs.declared.state.Context.{Context}
 use Rattle.js_simple.specs.Seen.{Point}
 

@@ -3,13 +3,13 @@ use Rattle.std.specs.Prelude.{◌≡◌, List, map, Option, option_map, Result, 
 use Rattle.js_tree.specs.Value as run
 use Rattle.js_tree.specs.Value.{World, Locals, Outcome, gives, over}
 use Rattle.js_tree.specs.Evaluate.{Setting, Scope, with_objects}
-use Rattle.js_slots.specs.Names.{distinct, global_names}
-use Rattle.js_slots.specs.Places.{table_of}
-use Rattle.js_slots.specs.Slots.{slots_of, OnlyGlobals}
+use Rattle.js_code.specs.Names.{distinct, global_names}
+use Rattle.js_code.specs.Places.{table_of}
+use Rattle.js_code.specs.Slots.{slots_of, OnlyGlobals}
 use Rattle.js_code.specs.PartClauses.{IsCode}
-use Rattle.js_heap.specs.Seen.{value_of, objects_of}
-use Rattle.js_heap.specs.declared.value.Value.{Value}
-use Rattle.js_heap.specs.declared.heap.Object.{Object}
+use Rattle.js_value.specs.HeapSeen.{value_of, objects_of}
+use Rattle.js_value.specs.declared.heap.value.Value.{Value}
+use Rattle.js_value.specs.declared.heap.heap.Object.{Object}
 use Rattle.js_simple.specs.declared.state.Halt.{Halt}
 use Rattle.js_simple.specs.declared.state.Halt.TheVariants as halt
 use Rattle.js_simple.specs.declared.state.Context.{Context}

@@ -1,7 +1,7 @@
 -- Own: which expressions have no call in them.
 use Rattle.std.specs.Prelude.{◌≡◌, ◌&&◌, ℕ, List, Option, Some, None, Bool, true, false, slice_get}
 use Rattle.js_tree.specs.Script.{Expr, number, string, boolean, null, name, unary, binary, both, either, choice, call, index, length_of, pop, char_code_at, substring, array, dictionary, decimal_of, from_char_code, Exprs, no_exprs, expr}
-use Rattle.js_slots.specs.Places.{Table}
+use Rattle.js_code.specs.Places.{Table}
 use Rattle.js_code.specs.Parts.{Part, Tree, as_expr, as_exprs, expr_at, exprs_at, tree_of, trees_of}
 use Rattle.js_code.specs.PartClauses.{IsCode}
 

@@ -4,8 +4,8 @@ ghost use Rattle.std.specs.Prelude.{[]};
 ghost use Rattle.js_tree.specs.Evaluate as part;
 ghost use Rattle.js_tree.specs.Script as form;
 ghost use Rattle.js_tree.specs.Value as run;
-ghost use Rattle.js_slots.specs.Slots as slots;
-ghost use Rattle.js_heap.specs.Seen.{value_of, values_of};
+ghost use Rattle.js_code.specs.Slots as slots;
+ghost use Rattle.js_value.specs.HeapSeen.{value_of, values_of};
 ghost use Rattle.js_simple.specs.Seen.{Anywhere, Changes, Does, slots_in};
 ghost use Rattle.js_code.specs.Held.{part_of};
 ghost use Rattle.js_simple.specs.Simple.{IsSimpleAt, AreSimpleAt, IsSimplePart};
@@ -16,10 +16,10 @@ use crate::numbers::{truth_at, value_of_numbers};
 use crate::operate::{allocate, binary, given, number, pop, slot_value, truth_of};
 use crate::state::{Context, Halt};
 use indexmap::IndexMap;
-use js_code::Part;
-use js_heap::heap::{self, Object};
-use js_heap::operate::{char_code, decimal_text, one_byte, part_of, unary_value};
-use js_heap::value::Value;
+use js_code::code::Part;
+use js_value::heap::heap::{self, Object};
+use js_value::heap::operate::{char_code, decimal_text, one_byte, part_of, unary_value};
+use js_value::heap::value::Value;
 use js_tree::{BinaryOp, UnaryOp};
 
 /// The number beside the name of a function of the host, under which a run keeps no function.

@@ -6,7 +6,7 @@ ghost use Rattle.js_code.specs.Parts.{Tree, as_exprs, exprs_at, tree_of, trees_o
 ghost use Rattle.js_simple.specs.Simple.{IsSomeCode};
 ghost use Rattle.js_simple.specs.Cells.{exprs_of, count_of};
 
-use js_code::{Code, Part};
+use js_code::code::{Code, Part};
 
 /// The first expression of a list, and the list of those after it.
 #[derive(Clone, Copy)]

@@ -6,8 +6,8 @@ ghost use Rattle.js_code.specs.Parts.{Tree, trees_of, tree_of};
 ghost use Rattle.js_simple.specs.Simple.{IsSomeCode, AreMarks, HasNoCall, IsSimpleTree, mark_at};
 
 use gj_base::NoMemory;
-use js_code::code::narrow;
-use js_code::{Code, Part};
+use js_code::code::code::narrow;
+use js_code::code::{Code, Part};
 use std::alloc::Global;
 use std::marker::Model;
 

@@ -5,23 +5,23 @@ ghost use Rattle.std.specs.Prelude.{◌≡◌, ℕ, List, Some, Ok, IfSome, opti
 ghost use Rattle.js_tree.specs.Operation as defined;
 ghost use Rattle.js_tree.specs.Script as form;
 ghost use Rattle.js_tree.specs.Value as run;
-ghost use Rattle.js_slots.specs.Slots as slotted;
+ghost use Rattle.js_code.specs.Slots as slotted;
 ghost use Rattle.js_code.specs.Held.{part_of};
-ghost use Rattle.js_value.specs.Seen.{whole_of};
-ghost use Rattle.js_heap.specs.Seen.{value_of, values_of, object_of, objects_of};
+ghost use Rattle.js_value.specs.ValueSeen.{whole_of};
+ghost use Rattle.js_value.specs.HeapSeen.{value_of, values_of, object_of, objects_of};
 ghost use Rattle.js_simple.specs.Seen.{Does, slots_in};
 ghost use Rattle.js_simple.specs.PartDoes.{eval_at, eval_part, expr_in, value_does};
 
 use crate::state::{Context, Slot};
-use js_code::Part;
-use js_heap::heap::Object;
-use js_heap::value::Value;
+use js_code::code::Part;
+use js_value::heap::heap::Object;
+use js_value::heap::value::Value;
 use js_tree::BinaryOp;
-use js_value::arithmetic::{
+use js_value::value::arithmetic::{
     bit_and, bit_or, bit_xor, difference, natural, product, quotient, remainder, shifted_left,
     shifted_right, shifted_right_unsigned, sum,
 };
-use js_value::number::Number;
+use js_value::value::number::Number;
 
 // The number that a slot holds.
 fn number_held<'a>(slot: &Slot<'a>) -> Option<Number>

@@ -4,18 +4,18 @@ ghost use Rattle.std.specs.Prelude.{◌≡◌, pos, option_map, IfOk};
 ghost use Rattle.js_tree.specs.Operation as defined;
 ghost use Rattle.js_tree.specs.Evaluate as part;
 ghost use Rattle.js_tree.specs.Value as run;
-ghost use Rattle.js_heap.specs.Seen.{value_of, objects_of, object_of};
-ghost use Rattle.js_slots.specs.Slots.{slot_value};
+ghost use Rattle.js_value.specs.HeapSeen.{value_of, objects_of, object_of};
+ghost use Rattle.js_code.specs.Slots.{slot_value};
 ghost use Rattle.js_simple.specs.Seen.{Anywhere, Changes, slots_in};
 
 use crate::state::{Halt, Slot};
 use bumpalo::Bump;
 use gj_base::NoMemory;
-use js_heap::heap::{self, Object};
-use js_heap::operate::on_values;
-use js_heap::value::{Value, same_value};
+use js_value::heap::heap::{self, Object};
+use js_value::heap::operate::on_values;
+use js_value::heap::value::{Value, same_value};
 use js_tree::BinaryOp;
-use js_value::arithmetic;
+use js_value::value::arithmetic;
 
 /// A value that may be missing: without it the operation at the offset has no meaning.
 #[inline(always)]

@@ -4,8 +4,8 @@ ghost use Rattle.js_simple.specs.Simple.{IsSomeCode};
 
 use bumpalo::Bump;
 use gj_base::NoMemory;
-use js_code::Code;
-use js_heap::Value;
+use js_code::code::Code;
+use js_value::heap::Value;
 use std::alloc::{AllocError, AllocFailed, Global};
 
 /// A variable by its slot: what has been set, if anything.

@@ -7,8 +7,8 @@ use Rattle.js_tree.specs.Value.{Value, whole, bytes, truth, nothing, object, fun
 use Rattle.js_tree.specs.Operation.{unary_value, binary_value, element, stored, removed, pushed, popped, length_value, char_code, part_of, decimal_text, one_byte}
 use Rattle.js_tree.specs.Evaluate.{Setting, setting, Flow, onward, eval, exec, exec_all, exec_else, exec_cases, frame, truth_of, after_pop, after_turn, after_switch, set_local, set_name, done}
 use Rattle.js_tree.specs.Laws.{while_does, forever_does}
-use Rattle.js_frames.specs.Moment.{Moment, Out, in_world, frame_in, valued, flowing, expr_does, stmt_does, else_does, with_value, given_here, popped_here, done_here, chosen}
-use Rattle.js_frames.specs.PartWaits.{turn_does, expr_first, stmt_first, else_first}
+use Rattle.js_steps.specs.Moment.{Moment, Out, in_world, frame_in, valued, flowing, expr_does, stmt_does, else_does, with_value, given_here, popped_here, done_here, chosen}
+use Rattle.js_steps.specs.PartWaits.{turn_does, expr_first, stmt_first, else_first}
 
 -- a value in a world
 pub given_is : (m : Moment) (at : ℕ) (o : Option Value) (w : World) → valued m (given at o w) ≡ given_here at o (in_world m w)

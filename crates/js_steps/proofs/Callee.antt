@@ -5,19 +5,19 @@ use Rattle.js_tree.specs.Value.{Value, gives}
 use Rattle.js_tree.specs.Evaluate.{Setting}
 use Rattle.js_code.specs.Held.{part_of}
 use Rattle.js_code.specs.Parts.{Tree, exprs_at, tree_of}
-use Rattle.js_code.specs.declared.part.Part as kept
-use Rattle.js_code.specs.declared.part.Part.TheVariants as held
-use Rattle.js_frames.specs.declared.frame.Frame.{Frame}
-use Rattle.js_frames.specs.declared.frame.Halt.{Halt}
-use Rattle.js_frames.specs.declared.frame.Task.{Task}
-use Rattle.js_frames.specs.declared.frame.Use.{Use}
-use Rattle.js_frames.specs.declared.state.Env.{Env}
-use Rattle.js_frames.specs.declared.state.State.{State}
-use Rattle.js_frames.specs.Moment.{Moment, value, arguments_do}
-use Rattle.js_frames.specs.PartWaits.{callee_does}
-use Rattle.js_frames.specs.PartLaws.{steps_part_in}
-use Rattle.js_frames.specs.Stands.{StepsIn}
-use Rattle.js_operands.specs.WayLaws.{some_part}
+use Rattle.js_code.specs.declared.code.part.Part as kept
+use Rattle.js_code.specs.declared.code.part.Part.TheVariants as held
+use Rattle.js_steps.specs.declared.frames.frame.Frame.{Frame}
+use Rattle.js_steps.specs.declared.frames.frame.Halt.{Halt}
+use Rattle.js_steps.specs.declared.frames.frame.Task.{Task}
+use Rattle.js_steps.specs.declared.frames.frame.Use.{Use}
+use Rattle.js_steps.specs.declared.frames.state.Env.{Env}
+use Rattle.js_steps.specs.declared.frames.state.State.{State}
+use Rattle.js_steps.specs.Moment.{Moment, value, arguments_do}
+use Rattle.js_steps.specs.PartWaits.{callee_does}
+use Rattle.js_steps.specs.PartLaws.{steps_part_in}
+use Rattle.js_steps.specs.Stands.{StepsIn}
+use Rattle.js_steps.specs.WayLaws.{some_part}
 
 pub callee_goes : (env : Env) (stack new : List Frame) (s s' : State) (r : Result Task Halt) (i : ℕ) (q : kept.Part) (at f es : ℕ) (u : Use) (v : Value) → slice_get s.body.now.code i ≡ Some (part_of q) → q ≡ held.Call at f es
     → StepsIn env stack s new s' r (λ st m. arguments_do st at u v [] (exprs_at m.trees es) m) → StepsIn env stack s new s' r (λ st m. callee_does st u (slice_get m.trees i) v m)

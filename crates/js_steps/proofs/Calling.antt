@@ -4,18 +4,18 @@ use Rattle.std.specs.Prelude.{Result}
 use Rattle.js_tree.specs.Evaluate.{setting, eval}
 use Rattle.js_code.specs.Parts.{Tree, call, perform, as_expr, as_stmt, expr_at, exprs_at, stmt_at}
 use Rattle.js_tree.specs.Script as tree
-use Rattle.js_frames.specs.declared.frame.Frame.{Frame}
-use Rattle.js_frames.specs.declared.frame.Halt.{Halt}
-use Rattle.js_frames.specs.declared.frame.Task.{Task}
-use Rattle.js_frames.specs.declared.frame.Use.TheVariants.{Needed, Dropped}
-use Rattle.js_frames.specs.declared.state.Env.{Env}
-use Rattle.js_frames.specs.declared.state.State.{State}
-use Rattle.js_frames.specs.Moment.{Out, expr_does, stmt_does, with_value, arguments_do}
-use Rattle.js_frames.specs.Stack.{resume}
-use Rattle.js_frames.specs.Stands.{Keeps, StepsIn, moment}
-use Rattle.js_frames.specs.PartLaws.{tree_held}
-use Rattle.js_operands.specs.WayLaws.{value_same}
-use Rattle.js_steps.proofs.Calls.{call_is, perform_call_is}
+use Rattle.js_steps.specs.declared.frames.frame.Frame.{Frame}
+use Rattle.js_steps.specs.declared.frames.frame.Halt.{Halt}
+use Rattle.js_steps.specs.declared.frames.frame.Task.{Task}
+use Rattle.js_steps.specs.declared.frames.frame.Use.TheVariants.{Needed, Dropped}
+use Rattle.js_steps.specs.declared.frames.state.Env.{Env}
+use Rattle.js_steps.specs.declared.frames.state.State.{State}
+use Rattle.js_steps.specs.Moment.{Out, expr_does, stmt_does, with_value, arguments_do}
+use Rattle.js_steps.specs.Stack.{resume}
+use Rattle.js_steps.specs.Stands.{Keeps, StepsIn, moment}
+use Rattle.js_steps.specs.PartLaws.{tree_held}
+use Rattle.js_steps.specs.WayLaws.{value_same}
+use Rattle.js_steps.proofs.StepsCalls.{call_is, perform_call_is}
 
 pub calls_part : (env : Env) (stack new : List Frame) (s s' : State) (r : Result Task Halt) (i at f es : ℕ) → slice_get s.body.now.code i ≡ Some (call at f es)
     → StepsIn env stack s new s' r (λ st m. with_value (expr_does st (expr_at m.trees f) m) (λ v n. arguments_do st at Needed v [] (exprs_at n.trees es) n))

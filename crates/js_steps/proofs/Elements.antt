@@ -4,27 +4,27 @@ use Rattle.std.specs.Prelude.{Result, Ok}
 use Rattle.js_tree.specs.Script.{Exprs}
 use Rattle.js_tree.specs.Value.{Value, Object, World, items, object, gives}
 use Rattle.js_tree.specs.Evaluate.{setting, eval, with_objects}
-use Rattle.js_slots.specs.Places.{table_of}
+use Rattle.js_code.specs.Places.{table_of}
 use Rattle.js_code.specs.Parts.{Tree, array, as_expr, expr_at, exprs_at, trees_of}
-use Rattle.js_heap.specs.Seen.{value_of, values_of, objects_of}
-use Rattle.js_heap.specs.declared.value.Value as held
+use Rattle.js_value.specs.HeapSeen.{value_of, values_of, objects_of}
+use Rattle.js_value.specs.declared.heap.value.Value as held
 use Rattle.js_simple.specs.Simple.{IsSomeCode}
 use Rattle.js_simple.specs.Cells.{exprs_of}
 use Rattle.js_simple.specs.declared.list.Cell.{Cell}
-use Rattle.js_bodies.specs.Bodies.{names_in}
-use Rattle.js_frames.specs.declared.frame.Frame.{Frame}
-use Rattle.js_frames.specs.declared.frame.Halt.{Halt}
-use Rattle.js_frames.specs.declared.frame.Task.{Task}
-use Rattle.js_frames.specs.declared.frame.Task.TheVariants.{Give}
-use Rattle.js_frames.specs.declared.state.State.{State}
-use Rattle.js_frames.specs.Moment.{Moment, Out, value, in_world, expr_does, elements_do, with_value}
-use Rattle.js_frames.specs.Stack.{resume}
-use Rattle.js_frames.specs.Stands.{Before, Variables, Keeps, OnlyObjects, Steps, moment, world_of}
-use Rattle.js_frames.specs.StateLaws.{moment_objects, stands_objects}
-use Rattle.js_frames.specs.StepLaws.{goes_as}
-use Rattle.js_frames.specs.PartLaws.{tree_held}
-use Rattle.js_operands.specs.WayLaws.{value_same}
-use Rattle.js_steps.proofs.Calls.{array_is, element_is, elements_end}
+use Rattle.js_steps.specs.Bodies.{names_in}
+use Rattle.js_steps.specs.declared.frames.frame.Frame.{Frame}
+use Rattle.js_steps.specs.declared.frames.frame.Halt.{Halt}
+use Rattle.js_steps.specs.declared.frames.frame.Task.{Task}
+use Rattle.js_steps.specs.declared.frames.frame.Task.TheVariants.{Give}
+use Rattle.js_steps.specs.declared.frames.state.State.{State}
+use Rattle.js_steps.specs.Moment.{Moment, Out, value, in_world, expr_does, elements_do, with_value}
+use Rattle.js_steps.specs.Stack.{resume}
+use Rattle.js_steps.specs.Stands.{Before, Variables, Keeps, OnlyObjects, Steps, moment, world_of}
+use Rattle.js_steps.specs.StateLaws.{moment_objects, stands_objects}
+use Rattle.js_steps.specs.StepLaws.{goes_as}
+use Rattle.js_steps.specs.PartLaws.{tree_held}
+use Rattle.js_steps.specs.WayLaws.{value_same}
+use Rattle.js_steps.proofs.StepsCalls.{array_is, element_is, elements_end}
 
 -- one more element
 pub element_goes : (stack new : List Frame) (s : State) (r : Result Task Halt) (done : List held.Value) (list : ℕ) (cell : Cell)

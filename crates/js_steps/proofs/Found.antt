@@ -5,20 +5,20 @@ use Rattle.std.specs.Result.{IsErrAnd}
 use Rattle.js_tree.specs.Value.{gives}
 use Rattle.js_tree.specs.Evaluate.{setting}
 use Rattle.js_code.specs.Parts.{expr_at}
-use Rattle.js_heap.specs.Seen.{value_of}
-use Rattle.js_heap.specs.declared.value.Value as held
-use Rattle.js_frames.specs.declared.frame.Frame.{Frame}
-use Rattle.js_frames.specs.declared.frame.Halt.{Halt}
-use Rattle.js_frames.specs.declared.frame.Halt.TheVariants.{NoMemory, Over}
-use Rattle.js_frames.specs.declared.frame.Task.{Task}
-use Rattle.js_frames.specs.declared.frame.Task.TheVariants.{Give}
-use Rattle.js_frames.specs.declared.state.Env.{Env}
-use Rattle.js_frames.specs.declared.state.State.{State}
-use Rattle.js_frames.specs.Moment.{value, valued, expr_does}
-use Rattle.js_frames.specs.Stands.{Finds, OnlyObjects, StepsIn, moment}
-use Rattle.js_frames.specs.StateLaws.{moment_objects, stands_objects}
-use Rattle.js_frames.specs.StepLaws.{goes_as, stops}
-use Rattle.js_frames.specs.FoundLaws.{value_at}
+use Rattle.js_value.specs.HeapSeen.{value_of}
+use Rattle.js_value.specs.declared.heap.value.Value as held
+use Rattle.js_steps.specs.declared.frames.frame.Frame.{Frame}
+use Rattle.js_steps.specs.declared.frames.frame.Halt.{Halt}
+use Rattle.js_steps.specs.declared.frames.frame.Halt.TheVariants.{NoMemory, Over}
+use Rattle.js_steps.specs.declared.frames.frame.Task.{Task}
+use Rattle.js_steps.specs.declared.frames.frame.Task.TheVariants.{Give}
+use Rattle.js_steps.specs.declared.frames.state.Env.{Env}
+use Rattle.js_steps.specs.declared.frames.state.State.{State}
+use Rattle.js_steps.specs.Moment.{value, valued, expr_does}
+use Rattle.js_steps.specs.Stands.{Finds, OnlyObjects, StepsIn, moment}
+use Rattle.js_steps.specs.StateLaws.{moment_objects, stands_objects}
+use Rattle.js_steps.specs.StepLaws.{goes_as, stops}
+use Rattle.js_steps.specs.FoundLaws.{value_at}
 
 pub found_in : (env : Env) (stack : List Frame) (s s1 : State) (i : ℕ) (v : held.Value) → OnlyObjects s s1 → Finds value_of s s1 (let q : Result held.Value Halt = Ok v in q) (value_at i)
     → StepsIn env stack s stack s1 (Ok (Give v)) (λ st m. expr_does st (expr_at m.trees i) m)

@@ -11,11 +11,11 @@ use Rattle.js_tree.specs.declared.tree.BinaryOp.{BinaryOp}
 use Rattle.js_code.specs.Held.{part_of}
 use Rattle.js_code.specs.Parts.{Tree, as_expr, as_stmt, tree_of, trees_of}
 use Rattle.js_code.specs.PartLaws.{parts_stand}
-use Rattle.js_code.specs.declared.part.Part as kept
-use Rattle.js_code.specs.declared.part.Part.TheVariants as held
+use Rattle.js_code.specs.declared.code.part.Part as kept
+use Rattle.js_code.specs.declared.code.part.Part.TheVariants as held
 use Rattle.js_simple.specs.Simple.{is_simple, IsSimpleAt}
-use Rattle.js_bodies.specs.declared.body.Body.{Body}
-use Rattle.js_frames.specs.Moment.{Moment, flow, stmt_does}
+use Rattle.js_steps.specs.declared.bodies.body.Body.{Body}
+use Rattle.js_steps.specs.Moment.{Moment, flow, stmt_does}
 
 leaf : (p : kept.Part)
     → ((at : ℕ) (op : UnaryOp) (e : ℕ) → ¬ (p ≡ held.Unary at op e))

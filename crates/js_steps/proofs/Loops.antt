@@ -4,15 +4,15 @@ use Rattle.std.specs.Prelude.{Result}
 use Rattle.js_tree.specs.Script.{Name}
 use Rattle.js_tree.specs.Evaluate.{setting}
 use Rattle.js_code.specs.Parts.{Tree, forever, as_stmt, stmt_at, stmts_at, tree_of}
-use Rattle.js_frames.specs.declared.frame.Frame.{Frame}
-use Rattle.js_frames.specs.declared.frame.Halt.{Halt}
-use Rattle.js_frames.specs.declared.frame.Task.{Task}
-use Rattle.js_frames.specs.declared.state.State.{State}
-use Rattle.js_frames.specs.Moment.{Out, stmt_does}
-use Rattle.js_frames.specs.PartWaits.{turn_does}
-use Rattle.js_frames.specs.Stack.{loop_label, resume}
-use Rattle.js_frames.specs.Stands.{Keeps, Steps, moment}
-use Rattle.js_frames.specs.PartLaws.{tree_held}
+use Rattle.js_steps.specs.declared.frames.frame.Frame.{Frame}
+use Rattle.js_steps.specs.declared.frames.frame.Halt.{Halt}
+use Rattle.js_steps.specs.declared.frames.frame.Task.{Task}
+use Rattle.js_steps.specs.declared.frames.state.State.{State}
+use Rattle.js_steps.specs.Moment.{Out, stmt_does}
+use Rattle.js_steps.specs.PartWaits.{turn_does}
+use Rattle.js_steps.specs.Stack.{loop_label, resume}
+use Rattle.js_steps.specs.Stands.{Keeps, Steps, moment}
+use Rattle.js_steps.specs.PartLaws.{tree_held}
 use Rattle.js_steps.proofs.Begins.{forever_is}
 
 pub forever_goes : (stack new : List Frame) (s s' : State) (r : Result Task Halt) (i at body : ℕ) (label : Option Name) → slice_get s.body.now.code i ≡ Some (forever at label body)

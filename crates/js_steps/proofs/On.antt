@@ -4,22 +4,22 @@ use Rattle.std.specs.Prelude.{Result, Ok}
 use Rattle.std.proofs.lemmas.List.{map-append}
 use Rattle.js_tree.specs.Value.{gives}
 use Rattle.js_tree.specs.Evaluate.{Setting, setting, Flow, returns, onward, breaks, continues}
-use Rattle.js_heap.specs.Seen.{value_of, values_of}
-use Rattle.js_heap.specs.declared.value.Value as held
-use Rattle.js_frames.specs.declared.frame.Flow as step
-use Rattle.js_frames.specs.declared.frame.Frame.{Frame}
-use Rattle.js_frames.specs.declared.frame.Halt.{Halt}
-use Rattle.js_frames.specs.declared.frame.Task.{Task}
-use Rattle.js_frames.specs.declared.frame.Task.TheVariants.{Give, Follow}
-use Rattle.js_frames.specs.declared.frame.Use.{Use}
-use Rattle.js_frames.specs.declared.state.Env.{Env}
-use Rattle.js_frames.specs.declared.state.State.{State}
-use Rattle.js_frames.specs.Moment.{Moment, value, flow, Out, called_here}
-use Rattle.js_frames.specs.Stack.{IsNoCall, flow_of, frame_does, left, task_does}
-use Rattle.js_frames.specs.Stands.{Steps, StepsIn, moment}
-use Rattle.js_frames.specs.StepLaws.{goes_as}
-use Rattle.js_flow.specs.Returned.{returned}
-use Rattle.js_flow.specs.PopLaws.{pops, pops_in, steps_in}
+use Rattle.js_value.specs.HeapSeen.{value_of, values_of}
+use Rattle.js_value.specs.declared.heap.value.Value as held
+use Rattle.js_steps.specs.declared.frames.frame.Flow as step
+use Rattle.js_steps.specs.declared.frames.frame.Frame.{Frame}
+use Rattle.js_steps.specs.declared.frames.frame.Halt.{Halt}
+use Rattle.js_steps.specs.declared.frames.frame.Task.{Task}
+use Rattle.js_steps.specs.declared.frames.frame.Task.TheVariants.{Give, Follow}
+use Rattle.js_steps.specs.declared.frames.frame.Use.{Use}
+use Rattle.js_steps.specs.declared.frames.state.Env.{Env}
+use Rattle.js_steps.specs.declared.frames.state.State.{State}
+use Rattle.js_steps.specs.Moment.{Moment, value, flow, Out, called_here}
+use Rattle.js_steps.specs.Stack.{IsNoCall, flow_of, frame_does, left, task_does}
+use Rattle.js_steps.specs.Stands.{Steps, StepsIn, moment}
+use Rattle.js_steps.specs.StepLaws.{goes_as}
+use Rattle.js_steps.specs.Returned.{returned}
+use Rattle.js_steps.specs.PopLaws.{pops, pops_in, steps_in}
 
 -- a step of the stack whose innermost frame is known
 pub in_frame : (env : Env) (stack new : List Frame) (s s' : State) (r : Result Task Halt) (f w : Frame) (part : Setting → Moment → Out) → f ≡ w → StepsIn env (stack ++ w ∷ []) s new s' r part → StepsIn env (stack ++ f ∷ []) s new s' r part

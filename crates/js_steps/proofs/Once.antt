@@ -8,27 +8,27 @@ use Rattle.js_tree.specs.Script.{Name}
 use Rattle.js_tree.specs.Value.{Value, Object}
 use Rattle.js_tree.specs.Operation.{stored}
 use Rattle.js_tree.specs.Evaluate.{Setting, setting, eval, set_local, set_name}
-use Rattle.js_slots.specs.declared.place.Place.TheVariants.{Local, Global}
+use Rattle.js_code.specs.declared.slots.place.Place.TheVariants.{Local, Global}
 use Rattle.js_code.specs.Parts.{Part, declare, assign, expr_at, trees_of}
-use Rattle.js_heap.specs.Seen.{value_of, objects_of}
-use Rattle.js_heap.specs.declared.value.Value as held
+use Rattle.js_value.specs.HeapSeen.{value_of, objects_of}
+use Rattle.js_value.specs.declared.heap.value.Value as held
 use Rattle.js_simple.specs.Simple.{IsSimpleAt}
-use Rattle.js_bodies.specs.declared.body.Body.{Body}
-use Rattle.js_frames.specs.declared.frame.End.TheVariants as end
-use Rattle.js_frames.specs.declared.frame.Flow.TheVariants.{Onward}
-use Rattle.js_frames.specs.declared.frame.Frame.{Frame}
-use Rattle.js_frames.specs.declared.frame.Halt.{Halt}
-use Rattle.js_frames.specs.declared.frame.Halt.TheVariants.{Over}
-use Rattle.js_frames.specs.declared.frame.Task.{Task}
-use Rattle.js_frames.specs.declared.frame.Task.TheVariants.{Follow}
-use Rattle.js_frames.specs.declared.state.State.{State}
-use Rattle.js_frames.specs.Moment.{Moment, Out, frame_in, flowing, in_world, expr_does, stmt_does, with_value, done_here}
-use Rattle.js_frames.specs.PartWaits.{stmt_first}
-use Rattle.js_frames.specs.Stands.{Steps, Finds, OnlyObjects, moment}
-use Rattle.js_frames.specs.FoundLaws.{found_value, found_stop, value_at}
-use Rattle.js_frames.specs.PartLaws.{steps_as, done_step}
-use Rattle.js_operands.specs.SetLaws.{local_rest, global_rest, declares, assigns_local, assigns_global}
-use Rattle.js_operands.specs.WayLaws.{value_same}
+use Rattle.js_steps.specs.declared.bodies.body.Body.{Body}
+use Rattle.js_steps.specs.declared.frames.frame.End.TheVariants as end
+use Rattle.js_steps.specs.declared.frames.frame.Flow.TheVariants.{Onward}
+use Rattle.js_steps.specs.declared.frames.frame.Frame.{Frame}
+use Rattle.js_steps.specs.declared.frames.frame.Halt.{Halt}
+use Rattle.js_steps.specs.declared.frames.frame.Halt.TheVariants.{Over}
+use Rattle.js_steps.specs.declared.frames.frame.Task.{Task}
+use Rattle.js_steps.specs.declared.frames.frame.Task.TheVariants.{Follow}
+use Rattle.js_steps.specs.declared.frames.state.State.{State}
+use Rattle.js_steps.specs.Moment.{Moment, Out, frame_in, flowing, in_world, expr_does, stmt_does, with_value, done_here}
+use Rattle.js_steps.specs.PartWaits.{stmt_first}
+use Rattle.js_steps.specs.Stands.{Steps, Finds, OnlyObjects, moment}
+use Rattle.js_steps.specs.FoundLaws.{found_value, found_stop, value_at}
+use Rattle.js_steps.specs.PartLaws.{steps_as, done_step}
+use Rattle.js_steps.specs.SetLaws.{local_rest, global_rest, declares, assigns_local, assigns_global}
+use Rattle.js_steps.specs.WayLaws.{value_same}
 use Rattle.js_steps.specs.Done.{Did}
 use Rattle.js_steps.proofs.Begins.{declare_is, assign_is, store_is}
 

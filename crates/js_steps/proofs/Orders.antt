@@ -5,22 +5,22 @@ use Rattle.js_tree.specs.Evaluate.{Setting, setting}
 use Rattle.js_tree.specs.Script.{ScriptTree}
 use Rattle.js_code.specs.Parts as list
 use Rattle.js_code.specs.Parts.{Tree, as_stmts, stmt_at, stmts_at}
-use Rattle.js_frames.specs.declared.frame.Flow.TheVariants.{Onward}
-use Rattle.js_frames.specs.declared.frame.Frame.{Frame}
-use Rattle.js_frames.specs.declared.frame.Frame.TheVariants.{Rest}
-use Rattle.js_frames.specs.declared.frame.Halt.{Halt}
-use Rattle.js_frames.specs.declared.frame.Halt.TheVariants.{NoMemory, Over}
-use Rattle.js_frames.specs.declared.frame.Task.{Task}
-use Rattle.js_frames.specs.declared.frame.Task.TheVariants.{Execute, Follow, Statements}
-use Rattle.js_frames.specs.declared.state.State.{State}
-use Rattle.js_frames.specs.Moment.{Moment, Out, flow, stmt_does, stmts_do}
-use Rattle.js_frames.specs.PartLaws.{tree_held}
-use Rattle.js_frames.specs.Stack.{frame_does, resume, task_does}
-use Rattle.js_frames.specs.StackLaws.{resume_push}
-use Rattle.js_frames.specs.Stands.{Before, Variables, Stands, Leads, Keeps, Steps, moment}
-use Rattle.js_frames.specs.StepLaws.{pushed}
-use Rattle.js_flow.specs.FlowLaws.{stmts_are}
-use Rattle.js_flow.specs.PopLaws.{stands_popped}
+use Rattle.js_steps.specs.declared.frames.frame.Flow.TheVariants.{Onward}
+use Rattle.js_steps.specs.declared.frames.frame.Frame.{Frame}
+use Rattle.js_steps.specs.declared.frames.frame.Frame.TheVariants.{Rest}
+use Rattle.js_steps.specs.declared.frames.frame.Halt.{Halt}
+use Rattle.js_steps.specs.declared.frames.frame.Halt.TheVariants.{NoMemory, Over}
+use Rattle.js_steps.specs.declared.frames.frame.Task.{Task}
+use Rattle.js_steps.specs.declared.frames.frame.Task.TheVariants.{Execute, Follow, Statements}
+use Rattle.js_steps.specs.declared.frames.state.State.{State}
+use Rattle.js_steps.specs.Moment.{Moment, Out, flow, stmt_does, stmts_do}
+use Rattle.js_steps.specs.PartLaws.{tree_held}
+use Rattle.js_steps.specs.Stack.{frame_does, resume, task_does}
+use Rattle.js_steps.specs.StackLaws.{resume_push}
+use Rattle.js_steps.specs.Stands.{Before, Variables, Stands, Leads, Keeps, Steps, moment}
+use Rattle.js_steps.specs.StepLaws.{pushed}
+use Rattle.js_steps.specs.FlowLaws.{stmts_are}
+use Rattle.js_steps.specs.PopLaws.{stands_popped}
 
 -- one step after the other
 pub then_steps : (stack mid new : List Frame) (s s1 s' : State) (t : Task) (r : Result Task Halt) (part : Setting → Moment → Out)

@@ -6,22 +6,22 @@ use Rattle.js_tree.specs.Script as tree
 use Rattle.js_tree.specs.Value as run
 use Rattle.js_tree.specs.Value.{Value, World, Locals, Outcome, gives, throws, over, and_then}
 use Rattle.js_tree.specs.Evaluate.{Setting, setting, Scope, onward, eval, eval_dropped}
-use Rattle.js_slots.specs.Places.{table_of}
+use Rattle.js_code.specs.Places.{table_of}
 use Rattle.js_code.specs.Held.{part_of}
 use Rattle.js_code.specs.Parts.{Part, Tree, perform, as_expr, as_stmt, expr_at, stmt_at, tree_of, trees_of}
 use Rattle.js_code.specs.PartLaws.{parts_stand}
-use Rattle.js_code.specs.declared.part.Part as kept
-use Rattle.js_code.specs.declared.part.Part.TheVariants as held
+use Rattle.js_code.specs.declared.code.part.Part as kept
+use Rattle.js_code.specs.declared.code.part.Part.TheVariants as held
 use Rattle.js_simple.specs.Simple.{IsSomeCode}
-use Rattle.js_bodies.specs.Bodies.{names_in}
-use Rattle.js_frames.specs.declared.frame.Frame.{Frame}
-use Rattle.js_frames.specs.declared.frame.Halt.{Halt}
-use Rattle.js_frames.specs.declared.frame.Task.{Task}
-use Rattle.js_frames.specs.declared.state.State.{State}
-use Rattle.js_frames.specs.Moment.{Moment, flow, flowing, valued, expr_does, stmt_does, with_value}
-use Rattle.js_frames.specs.PartWaits.{first_does, stmt_first}
-use Rattle.js_frames.specs.Stands.{Steps, moment}
-use Rattle.js_operands.specs.WayLaws.{begins, no_tree}
+use Rattle.js_steps.specs.Bodies.{names_in}
+use Rattle.js_steps.specs.declared.frames.frame.Frame.{Frame}
+use Rattle.js_steps.specs.declared.frames.frame.Halt.{Halt}
+use Rattle.js_steps.specs.declared.frames.frame.Task.{Task}
+use Rattle.js_steps.specs.declared.frames.state.State.{State}
+use Rattle.js_steps.specs.Moment.{Moment, flow, flowing, valued, expr_does, stmt_does, with_value}
+use Rattle.js_steps.specs.PartWaits.{first_does, stmt_first}
+use Rattle.js_steps.specs.Stands.{Steps, moment}
+use Rattle.js_steps.specs.WayLaws.{begins, no_tree}
 
 abbrev pub IsNoCall : Expr → Type 0
 IsNoCall (call at f es) = ⊥

@@ -1,13 +1,13 @@
 -- Own: statements that are done at once.
 use Rattle.std.specs.Prelude.{◌≡◌, List, Result, Ok, Err, Bool, true, false}
 use Rattle.js_tree.specs.Evaluate.{Setting}
-use Rattle.js_frames.specs.declared.frame.Flow.TheVariants.{Onward}
-use Rattle.js_frames.specs.declared.frame.Frame.{Frame}
-use Rattle.js_frames.specs.declared.frame.Halt.{Halt}
-use Rattle.js_frames.specs.declared.frame.Task.TheVariants.{Follow}
-use Rattle.js_frames.specs.declared.state.State.{State}
-use Rattle.js_frames.specs.Moment.{Moment, Out}
-use Rattle.js_frames.specs.Stands.{Steps}
+use Rattle.js_steps.specs.declared.frames.frame.Flow.TheVariants.{Onward}
+use Rattle.js_steps.specs.declared.frames.frame.Frame.{Frame}
+use Rattle.js_steps.specs.declared.frames.frame.Halt.{Halt}
+use Rattle.js_steps.specs.declared.frames.frame.Task.TheVariants.{Follow}
+use Rattle.js_steps.specs.declared.frames.state.State.{State}
+use Rattle.js_steps.specs.Moment.{Moment, Out}
+use Rattle.js_steps.specs.Stands.{Steps}
 
 -- a statement that was done with the stack as it is, or that was not begun
 abbrev pub Did : List Frame → State → State → Result Bool Halt → (Setting → Moment → Out) → Type 0

@@ -1,9 +1,11 @@
-//! Steps of a run: an expression and a statement are begun, and what waits goes on with a value and
-//! a completion. ECMA-262 5.1, cut to a subset.
+//! The steps of a run: what is left to be done, the operations, the flow of control, calls.
+//!
+//! ECMA-262 5.1, sections 11 to 13, cut to a subset (docs/SCRIPT.md).
 #![tactic(auto)]
 
-pub mod at_once;
-pub mod evaluate;
-pub mod execute;
-pub mod follow;
-pub mod give;
+pub mod bodies;
+pub mod calls;
+pub mod flow;
+pub mod frames;
+pub mod operands;
+pub mod steps;

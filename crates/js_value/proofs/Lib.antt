@@ -1,2 +1,4 @@
 pub mod Places
-pub mod Objects
+pub mod ValueObjects
+pub mod DictionaryLemmas
+pub mod HeapObjects

@@ -6,8 +6,8 @@ use Rattle.std.proofs.lemmas.Bool.{ltb-true, ltb-false}
 use Rattle.std.proofs.lemmas.Option.{same_Some, slice_get_read, slice_get_past}
 use Rattle.js_tree.specs.Script.{Name}
 use Rattle.js_tree.specs.Value.{Value, lookup, with_entry, without_entry}
-use Rattle.js_value.specs.declared.entries.Entry.{Entry}
-use Rattle.js_value.specs.Seen.{str_bytes, value_of, entry_of, entries_of, place_in}
+use Rattle.js_value.specs.declared.value.entries.Entry.{Entry}
+use Rattle.js_value.specs.ValueSeen.{str_bytes, value_of, entry_of, entries_of, place_in}
 
 pub lookup_is : (x : Name) (es : List Entry) → lookup x (entries_of es) ≡ option_map (λ e. value_of e.value) (slice_get es (place_in x es))
 lookup_is x [] = refl

@@ -1,9 +1,7 @@
-//! The values of scripts, the operators between them, and arrays and dictionaries. ECMA-262 5.1, cut to a subset.
+//! Values of scripts, and the heap in which arrays and dictionaries live.
+//!
+//! ECMA-262 5.1, section 8 "Types", cut to a subset (docs/SCRIPT.md).
 #![tactic(auto)]
 
-pub mod arithmetic;
-pub mod entries;
 pub mod heap;
-pub mod number;
-pub mod operate;
 pub mod value;

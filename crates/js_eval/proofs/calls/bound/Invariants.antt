@@ -1,6 +1,6 @@
 use Rattle.std.proofs.Common.{◌≡◌, ◌≤◌, ◌++◌, drop, length}
 use Rattle.js_tree.specs.Evaluate.{bound}
-use Rattle.js_value.specs.Seen.{entries_of, values_of}
+use Rattle.js_value.specs.ValueSeen.{entries_of, values_of}
 use Rattle.js_eval.proofs.calls.bound.Given as goal
 
 abbrev pub invariant-loop-i : goal.invariant-loop-i

@@ -9,8 +9,8 @@ use Rattle.std.proofs.lemmas.List.{map-append, length-map}
 use Rattle.js_tree.specs.View.{expr_view, stmts_view, item_view, function_view, last_case}
 use Rattle.js_tree.specs.Evaluate as part
 use Rattle.js_tree.specs.Evaluate.{frame}
-use Rattle.js_value.specs.Seen.{value_of, values_of, entries_of}
-use Rattle.js_value.specs.declared.value.Value.{Value}
+use Rattle.js_value.specs.ValueSeen.{value_of, values_of, entries_of}
+use Rattle.js_value.specs.declared.value.value.Value.{Value}
 use Rattle.js_eval.specs.Weight.{expr_weight, exprs_weight, stmts_weight, cases_weight}
 use Rattle.js_eval.specs.Does.{test_in, cases_do}
 use Rattle.js_eval.specs.Seen.{setting_of, scope_of, world_of, frame_of, flow_of, names_of}

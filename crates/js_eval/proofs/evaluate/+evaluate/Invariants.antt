@@ -5,7 +5,7 @@ use Rattle.js_tree.specs.Evaluate as part
 use Rattle.js_tree.specs.View.{expr_view, exprs_view, exprs_of, stmt_view, stmts_view, stmts_of, else_view, cases_view, case_view, cases_of, last_case, item_view}
 use Rattle.js_tree.specs.declared.tree.JsExpr.{JsExpr}
 use Rattle.js_tree.specs.declared.tree.JsCases.{out-JsCases}
-use Rattle.js_value.specs.Seen.{value_of, values_of, entries_of}
+use Rattle.js_value.specs.ValueSeen.{value_of, values_of, entries_of}
 use Rattle.js_eval.specs.declared.state.Context.{Context}
 use Rattle.js_eval.specs.Limited.{Deeper}
 use Rattle.js_eval.specs.Seen.{setting_of, scope_of, world_of, frame_of}

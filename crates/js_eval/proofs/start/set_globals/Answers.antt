@@ -1,5 +1,5 @@
 use Rattle.std.proofs.Common.{ap}
-use Rattle.js_value.specs.Seen.{value_of}
+use Rattle.js_value.specs.ValueSeen.{value_of}
 use Rattle.js_eval.specs.Seen.{setting_of, world_of}
 use Rattle.js_eval.proofs.Follows.{stops_then}
 use Rattle.js_eval.proofs.Parts.{stopped}

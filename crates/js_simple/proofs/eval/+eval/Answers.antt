@@ -1,10 +1,10 @@
 use Rattle.std.proofs.Common.{◌∙◌, sym, ap, arith, [], ◌∷◌, Some}
 use Rattle.std.proofs.lemmas.List.{map-append}
-use Rattle.js_slots.specs.declared.place.Place.TheVariants.{Caught, Local, Global, Nowhere}
+use Rattle.js_code.specs.declared.slots.place.Place.TheVariants.{Caught, Local, Global, Nowhere}
 use Rattle.js_tree.specs.Value.{and_then}
 use Rattle.js_tree.specs.Evaluate.{truth_of}
 use Rattle.js_code.specs.Held.{part_of}
-use Rattle.js_heap.specs.Seen.{value_of, values_of}
+use Rattle.js_value.specs.HeapSeen.{value_of, values_of}
 use Rattle.js_simple.proofs.Follows.{stops_then, stops_as, gives_as, stopped, value_goes, condition_stops, condition_true, condition_false, condition_is_true, condition_is_false, after_none, stops_onto}
 use Rattle.js_simple.proofs.Forms.{part_is, part_gives, part_at, part_missing, is_simple_part, name_is, name_does, function_is, host_is}
 use Rattle.js_simple.proofs.Lists.{first_simple, rest_simple, list_does, list_more, list_ends}

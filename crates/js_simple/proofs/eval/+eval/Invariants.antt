@@ -1,5 +1,5 @@
 use Rattle.std.proofs.Common.{◌≡◌, ◌+◌, ◌*◌}
-use Rattle.js_heap.specs.Seen.{values_of}
+use Rattle.js_value.specs.HeapSeen.{values_of}
 use Rattle.js_simple.specs.Simple.{AreSimpleAt}
 use Rattle.js_simple.specs.Seen.{Point, Stands, world_with}
 use Rattle.js_simple.specs.PartDoes.{eval_all_at}

@@ -1,9 +1,9 @@
 use Rattle.std.proofs.Common.{◌∙◌, sym, ap}
 use Rattle.js_tree.specs.Value as run
-use Rattle.js_slots.specs.declared.place.Place.TheVariants.{Local, Global}
-use Rattle.js_value.specs.Seen.{whole_of}
+use Rattle.js_code.specs.declared.slots.place.Place.TheVariants.{Local, Global}
+use Rattle.js_value.specs.ValueSeen.{whole_of}
 use Rattle.js_code.specs.Held.{part_of}
-use Rattle.js_heap.specs.Seen.{objects_of}
+use Rattle.js_value.specs.HeapSeen.{objects_of}
 use Rattle.js_simple.proofs.Forms.{part_at}
 use Rattle.js_simple.proofs.Quick.{if_some, some_of, slot_gives, operator_gives}
 use Rattle.js_simple.proofs.numbers.+number_at.Goals as goal

@@ -1,6 +1,6 @@
 use Rattle.js_tree.specs.Value.{truth}
-use Rattle.js_value.specs.Seen.{whole_of}
-use Rattle.js_heap.specs.Seen.{objects_of}
+use Rattle.js_value.specs.ValueSeen.{whole_of}
+use Rattle.js_value.specs.HeapSeen.{objects_of}
 use Rattle.js_simple.proofs.Quick.{if_some, some_of, operator_gives}
 use Rattle.js_simple.proofs.numbers.truth_of_numbers.Goals as goal
 

@@ -1,3 +1,0 @@
-pub mod FlawLemmas
-pub mod Numbers
-pub mod TableBegins

@@ -1,8 +1,0 @@
-use Rattle.go_typing.specs.Answer as tree
-use Rattle.go_answers.specs.AnswerView.{pending_view}
-use Rattle.go_answers.specs.declared.answer.PendingForm.TheVariants as number
-use Rattle.go_answers.proofs.Numbers.{number_made, joined_view}
-use Rattle.go_answers.proofs.number.joined.Goals as goal
-
-pub returns : goal.returns
-returns c = record { view = number_made c.pending.result (number.Joined c.args.op c.args.x c.args.y) (λ ts. tree.joined c.args.op (pending_view ts c.args.x) (pending_view ts c.args.y)) (λ ts. joined_view ts c.args.op c.args.x c.args.y) c.pending.ensures.view }

@@ -1,2 +1,0 @@
-pub mod AnswerView
-pub mod Below

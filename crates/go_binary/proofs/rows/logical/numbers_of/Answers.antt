@@ -1,0 +1,5 @@
+use Rattle.go_type.specs.Table.{size}
+use Rattle.go_binary.proofs.rows.logical.numbers_of.Goals as goal
+
+pub returns-in-Ok-bad-clause-within : goal.returns-in-Ok-bad-clause-within
+returns-in-Ok-bad-clause-within c = c.unless.ensures.within (size c.args.table.now) (c.in-Ok-bad.ensures.within (size c.args.table.now))

@@ -1,5 +1,0 @@
-mod Steps
-mod BindLemmas
-pub mod TypeLemmas
-mod StandLemmas
-mod SettleLemmas

@@ -1,0 +1,17 @@
+use Rattle.std.proofs.Common.{drop}
+use Rattle.go_type.specs.Table.{size}
+use Rattle.go_operands.specs.EnvView.{table_of}
+use Rattle.go_calls.specs.Words.{types_of, names_of}
+use Rattle.go_expr.specs.Raw.{raws_view, RawsBelow}
+use Rattle.go_assign.specs.SpecView.{spec_view}
+use Rattle.go_body.specs.LocalVarsSpecs.{var_raws}
+use Rattle.go_body.specs.LocalVarsLeft.{DefinesLeft}
+use Rattle.go_body.proofs.local_vars.valued.each_var.Given as goal
+
+-- what was declared so far, with what is left
+abbrev pub invariant-loop-n : goal.invariant-loop-n
+invariant-loop-n l = record {
+  defines : DefinesLeft (var_raws (names_of l.initial.walk.env) (spec_view (types_of l.initial.walk.env) l.s) l.names (raws_view (types_of l.initial.walk.env) l.initial.raws))
+      (var_raws (names_of l.initial.walk.env) (spec_view (types_of l.initial.walk.env) l.s) (drop l.n-index l.names) (raws_view (types_of l.initial.walk.env) l.raws)) l.initial.walk l.walk l.initial.flaws.items l.flaws.items l.initial.out.items l.out.items l.targets.items l.values.items;
+  within : RawsBelow (size (table_of l.walk.env)) l.raws;
+}

@@ -1,3 +1,0 @@
-mod PassedLemmas
-mod BranchLemmas
-mod TagLemmas

@@ -1,4 +1,0 @@
-pub mod Passed
-pub mod Leaving
-pub mod TagView
-pub mod Apart

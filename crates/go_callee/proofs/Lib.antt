@@ -1,4 +1,0 @@
-mod CalleeLemmas
-mod FormLemmas
-mod JoinLemmas
-mod GivesLemmas

@@ -1,4 +1,0 @@
-use Rattle.go_callee.proofs.gives.add.Goals as goal
-
-pub returns-in-None-clause-given : goal.returns-in-None-clause-given
-returns-in-None-clause-given c = c.in_ok-results.ensures.none c.in-None.is c.args.gives.now

@@ -1,3 +1,0 @@
-pub mod Words
-pub mod Called
-pub mod ResultTypes

@@ -1,0 +1,10 @@
+use Rattle.std.proofs.Common.{◌∙◌}
+use Rattle.go_type.specs.Table.{places, names}
+use Rattle.go_typing.specs.Call.{values_alone}
+use Rattle.go_calls.specs.CallView.{operands_view}
+use Rattle.go_calls.proofs.given.values.values_alone.Goals as goal
+
+pub returns-in-Ok : goal.returns-in-Ok
+returns-in-Ok c =
+    let ts = places c.args.table.now in
+    record { view = c.done.ensures.view ∙ c.in-Ok.ensures.value ∙ c.begun-passing.ensures.view (values_alone (names c.args.table.now) (operands_view ts c.args.operands.items)) }

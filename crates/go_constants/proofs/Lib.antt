@@ -1,2 +1,0 @@
-pub mod GrowLemmas
-mod ConstantLemmas

@@ -1,2 +1,0 @@
-pub mod ConstLemmas
-pub mod ConversionLemmas

@@ -1,7 +1,0 @@
-use Rattle.go_const.specs.Operation.{IsStr}
-use Rattle.go_const.specs.Answer.{conversion_of}
-use Rattle.go_conversions.proofs.ConstLemmas.{any_memory}
-use Rattle.go_conversions.proofs.conversion.folded_as.Goals as goal
-
-pub returns-clause-view : goal.returns-clause-view
-returns-clause-view c = c.folded.ensures.view (conversion_of c.args.k.now c.args.to) (any_memory (IsStr c.args.to) c.convert-answer.result (conversion_of c.args.k.now c.args.to) c.convert-answer.ensures.answer)

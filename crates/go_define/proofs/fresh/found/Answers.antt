@@ -1,5 +1,0 @@
-use Rattle.std.proofs.Common.{[]}
-use Rattle.go_define.proofs.fresh.found.Goals as goal
-
-pub returns : goal.returns
-returns c = record { value = c.there.ensures.value [] }

@@ -1,6 +1,0 @@
-mod EmitLemmas
-mod NameLemmas
-pub mod OutcomeLemmas
-pub mod PlaceLemmas
-pub mod RawLemmas
-pub mod WalkLemmas

@@ -1,5 +1,0 @@
-use Rattle.go_expr.proofs.FaultLemmas.{lists_faults}
-use Rattle.go_expr.proofs.laws.lists_faults.Goals as goal
-
-pub returns : goal.returns
-returns _ = record { exact = lists_faults }

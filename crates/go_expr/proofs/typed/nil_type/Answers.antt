@@ -1,7 +1,0 @@
-use Rattle.std.proofs.Common.{refl, arith}
-use Rattle.go_type.specs.Tree as ty
-use Rattle.go_rules.proofs.TableLemmas.{stands_for}
-use Rattle.go_expr.proofs.typed.nil_type.Goals as goal
-
-pub returns : goal.returns
-returns c = record { tree = stands_for c.args.table.now _ ty.nil c.requires (omega arith) refl }

@@ -1,3 +1,0 @@
-pub mod DoneLemmas
-mod FunctionLemmas
-mod LoopLemmas

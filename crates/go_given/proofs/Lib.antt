@@ -1,4 +1,0 @@
-pub mod GivenLemmas
-pub mod OrderLemmas
-pub mod PassedLemmas
-pub mod ExprsLemmas

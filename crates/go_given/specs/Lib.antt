@@ -1,4 +1,0 @@
-pub mod CallView
-pub mod GivenView
-pub mod Types
-pub mod Passed

@@ -1,7 +1,0 @@
-mod Steps
-pub mod FunctionLaws
-pub mod KeepLemmas
-mod HeadLemmas
-mod OwnLemmas
-mod EndLemmas
-pub mod BodyLemmas

@@ -1,2 +1,0 @@
-pub mod IndexView
-pub mod Order

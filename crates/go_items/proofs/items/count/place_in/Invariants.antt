@@ -1,0 +1,8 @@
+use Rattle.std.proofs.Common.{◌≡◌, ◌++◌, List, drop, map}
+use Rattle.go_syntax.specs.Tree as t
+use Rattle.go_syntax.specs.View.{decl_view}
+use Rattle.go_typing.specs.Checked.{function_at}
+use Rattle.go_items.proofs.items.count.place_in.Given as goal
+
+abbrev pub invariant-loop-d : goal.invariant-loop-d
+invariant-loop-d l = (rest : List t.Decl) → function_at l.n (map decl_view (drop l.d-index l.decls) ++ rest) ≡ function_at l.left (map decl_view l.decls ++ rest)

@@ -1,7 +1,0 @@
-mod Steps
-mod NumberLemmas
-mod OutcomeLemmas
-mod TypeLemmas
-mod ConstantLemmas
-mod PassLemmas
-mod DoneLemmas

@@ -1,4 +1,0 @@
-mod Steps
-mod PopLemmas
-mod ToldLemmas
-mod TargetLemmas

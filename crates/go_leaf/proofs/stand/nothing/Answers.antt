@@ -1,8 +1,0 @@
-use Rattle.go_core.specs.CoreTree as core
-use Rattle.go_core.specs.declared.statement.CoreStmtForm.TheVariants as statement
-use Rattle.go_stmt_nodes.proofs.Views.{stmt_made}
-use Rattle.go_leaf.proofs.StandLemmas.{nothing_view}
-use Rattle.go_leaf.proofs.stand.nothing.Goals as goal
-
-pub returns : goal.returns
-returns c = record { value = stmt_made c.statement.result (statement.Seq c.body.result) (λ ts. core.sequence core.no_stmts) (λ ts. nothing_view ts c.body.result c.new.result.items c.new.ensures.items (c.body.ensures.value ts)) c.statement.ensures.value }

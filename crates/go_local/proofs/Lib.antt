@@ -1,3 +1,0 @@
-mod BareLemmas
-mod TypeLemmas
-mod DeclLemmas

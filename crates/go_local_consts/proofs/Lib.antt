@@ -1,4 +1,0 @@
-mod ConstLemmas
-mod StepLemmas
-mod PlainLemmas
-mod SpecLemmas

@@ -1,5 +1,0 @@
-pub mod SpecLemmas
-pub mod LeftLemmas
-mod NameLemmas
-mod VarLemmas
-mod GivenLemmas

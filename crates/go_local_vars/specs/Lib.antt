@@ -1,2 +1,0 @@
-pub mod Specs
-pub mod Left

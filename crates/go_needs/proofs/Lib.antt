@@ -1,6 +1,0 @@
-mod Steps
-mod ParamLemmas
-mod NumberLemmas
-mod EdgeLemmas
-mod CircleLemmas
-mod ToldLemmas

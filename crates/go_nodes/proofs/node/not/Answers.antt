@@ -1,9 +1,0 @@
-use Rattle.go_type.specs.Levels.{tree_of}
-use Rattle.go_core.specs.CoreTree as core
-use Rattle.go_core.specs.CoreView.{expr_view}
-use Rattle.go_core.specs.declared.node.CoreForm.TheVariants as node
-use Rattle.go_nodes.proofs.Views.{expr_made, not_view}
-use Rattle.go_nodes.proofs.node.not.Goals as goal
-
-pub returns : goal.returns
-returns c = record { value = expr_made c.expression.result (node.Not c.args.ty c.args.e) (λ ts. core.not_ (tree_of ts c.args.ty) (expr_view ts c.args.e)) (λ ts. not_view ts c.args.ty c.args.e) c.expression.ensures.value }

@@ -1,0 +1,15 @@
+use Rattle.std.proofs.Common.{ap, ◌∙◌, to_z, of_z}
+use Rattle.std.specs.Int.{w128}
+use Rattle.std.proofs.lemmas.Int.{to_z-of_z}
+use Rattle.go_type.specs.Levels.{tree_of}
+use Rattle.go_core.specs.CoreTree as core
+use Rattle.go_core.specs.declared.node.Constant.TheVariants as held
+use Rattle.go_core.specs.declared.node.CoreForm.TheVariants as node
+use Rattle.go_operands.proofs.Views.{expr_made, constant_view}
+use Rattle.go_operands.proofs.nodes.leaf.whole.Goals as goal
+
+pub returns : goal.returns
+returns c = record {
+  value = expr_made c.expression.result (node.Const c.args.ty (held.Int (to_z w128 (of_z w128 c.args.value)))) (λ ts. core.constant (tree_of ts c.args.ty) (core.whole_constant c.args.value))
+      (λ ts. constant_view ts c.args.ty (held.Int (to_z w128 (of_z w128 c.args.value))) ∙ ap (λ z. core.constant (tree_of ts c.args.ty) (core.whole_constant z)) (to_z-of_z w128 c.args.value c.ranges.value)) c.expression.ensures.value;
+}

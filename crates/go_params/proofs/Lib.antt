@@ -1,3 +1,0 @@
-mod Steps
-pub mod NameLemmas
-mod BoundLemmas

@@ -1,2 +1,0 @@
-mod LiteralLemmas
-mod NodeLemmas

@@ -1,6 +1,0 @@
-use Rattle.go_type.specs.Table.{size}
-use Rattle.go_scopes.specs.EnvView.{table_of}
-use Rattle.go_parts.proofs.leaf.rune.Goals as goal
-
-pub hear-requires-clause-answer : goal.hear-requires-clause-answer
-hear-requires-clause-answer c = c.rune.ensures.within (size (table_of c.args.env.now))

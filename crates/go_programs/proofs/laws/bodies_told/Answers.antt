@@ -1,5 +1,0 @@
-use Rattle.go_programs.proofs.FaultyStatements.{bodies_told_exactly}
-use Rattle.go_programs.proofs.laws.bodies_told.Goals as goal
-
-pub returns : goal.returns
-returns c = record { exact = bodies_told_exactly }

@@ -1,5 +1,0 @@
-use Rattle.go_programs.proofs.FaultyPackages.{decls_told_exactly}
-use Rattle.go_programs.proofs.laws.declarations_told.Goals as goal
-
-pub returns : goal.returns
-returns c = record { exact = decls_told_exactly }

@@ -1,5 +1,0 @@
-use Rattle.go_programs.proofs.Main.{main_is_plain}
-use Rattle.go_programs.proofs.laws.main_function.Goals as goal
-
-pub returns : goal.returns
-returns c = record { plain = main_is_plain }

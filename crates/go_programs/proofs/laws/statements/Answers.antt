@@ -1,5 +1,0 @@
-use Rattle.go_programs.proofs.Statements.{statements_are_sound}
-use Rattle.go_programs.proofs.laws.statements.Goals as goal
-
-pub returns : goal.returns
-returns c = record { sound = statements_are_sound }

@@ -1,5 +1,0 @@
-use Rattle.go_programs.proofs.FaultyStatements.{statements_told_exactly}
-use Rattle.go_programs.proofs.laws.statements_told.Goals as goal
-
-pub returns : goal.returns
-returns c = record { exact = statements_told_exactly }

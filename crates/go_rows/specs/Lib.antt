@@ -1,2 +1,0 @@
-pub mod ClassView
-pub mod Fixed

@@ -1,2 +1,0 @@
-pub mod SameTypeLemmas
-pub mod TableLemmas

@@ -1,7 +1,0 @@
-use Rattle.std.proofs.Common.{refl, arith}
-use Rattle.go_typing.specs.Env.{int_type}
-use Rattle.go_rules.proofs.TableLemmas.{stands_for}
-use Rattle.go_rules.proofs.kind.int_type.Goals as goal
-
-pub returns-clause-tree : goal.returns-clause-tree
-returns-clause-tree c = stands_for c.args.table.now _ int_type c.requires (omega arith) refl

@@ -1,5 +1,0 @@
-mod Steps
-mod ParamLemmas
-mod KnownLemmas
-mod SigLemmas
-mod EntryLemmas

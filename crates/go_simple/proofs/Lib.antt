@@ -1,8 +1,0 @@
-mod CallLemmas
-mod PassedLemmas
-mod ToldLemmas
-mod DoesLemmas
-mod CountLemmas
-mod BackLemmas
-mod ReturnLemmas
-mod CaseLemmas

@@ -1,6 +1,0 @@
-//! What the frames of simple statements and of declarations do at a token, and with the tree that
-//! they waited for.
-#![tactic(auto)]
-
-pub mod decl;
-pub mod simple;

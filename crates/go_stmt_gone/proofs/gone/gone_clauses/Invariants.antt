@@ -1,5 +1,0 @@
-use Rattle.std.proofs.Common.{vec_len}
-use Rattle.go_stmt_gone.proofs.gone.gone_clauses.Given as goal
-
-abbrev pub decreases-loop-core : goal.decreases-loop-core
-decreases-loop-core l = vec_len l.items

@@ -1,5 +1,0 @@
-use Rattle.std.proofs.Common.{vec_len}
-use Rattle.go_stmt_gone.proofs.gone.gone_tests.Given as goal
-
-abbrev pub decreases-loop-test : goal.decreases-loop-test
-decreases-loop-test l = vec_len l.items

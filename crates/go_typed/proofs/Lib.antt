@@ -1,3 +1,0 @@
-mod RawLemmas
-mod Steps
-mod ReadyLemmas

@@ -1,5 +1,0 @@
-use Rattle.go_typing.proofs.More.{stays_typed}
-use Rattle.go_typing.proofs.laws.stays_typed.Goals as goal
-
-pub returns : goal.returns
-returns _ = record { stays = stays_typed }

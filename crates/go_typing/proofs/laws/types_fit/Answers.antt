@@ -1,5 +1,0 @@
-use Rattle.go_typing.proofs.Fit.{types_fit}
-use Rattle.go_typing.proofs.laws.types_fit.Goals as goal
-
-pub returns : goal.returns
-returns _ = record { fit = types_fit }

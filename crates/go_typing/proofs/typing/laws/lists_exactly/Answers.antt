@@ -1,0 +1,5 @@
+use Rattle.go_typing.proofs.Exact.{lists_exactly}
+use Rattle.go_typing.proofs.typing.laws.lists_exactly.Goals as goal
+
+pub returns : goal.returns
+returns _ = record { exact = lists_exactly }

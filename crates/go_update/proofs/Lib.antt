@@ -1,2 +1,0 @@
-mod UpdateLemmas
-mod TopLemmas

@@ -1,4 +1,0 @@
-//! The names that occur in expressions and statements, each of which counts as used there.
-#![tactic(auto)]
-
-pub mod names;

@@ -1,3 +1,0 @@
-mod ConditionLemmas
-mod TakenLemmas
-mod ToldLemmas

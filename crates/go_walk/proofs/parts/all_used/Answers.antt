@@ -1,8 +1,0 @@
-use Rattle.std.proofs.Common.{◌∙◌, drop}
-use Rattle.go_statements.specs.Walk.{all_used}
-use Rattle.go_walk.proofs.parts.all_used.Goals as goal
-
-pub returns : goal.returns
-returns c = record {
-  value = c.all_in.ensures.value c.as_slice.result.now c.in_ok-used.ensures.value ∙ (λ j. all_used (drop c.args.from (c.as_slice-2.ensures.value j)) (c.as_slice.ensures.value j));
-}

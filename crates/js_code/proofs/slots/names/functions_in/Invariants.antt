@@ -1,0 +1,8 @@
+use Rattle.std.proofs.Common.{◌≡◌, drop, map}
+use Rattle.js_tree.specs.View.{item_view}
+use Rattle.js_code.specs.Names.{names_of, with_names, distinct, function_names}
+use Rattle.js_code.proofs.slots.names.functions_in.Given as goal
+
+abbrev pub invariant-loop-item : goal.invariant-loop-item
+invariant-loop-item l =
+    with_names (names_of l.names.set.keys) (function_names (map item_view (drop l.item-index l.items))) ≡ distinct (function_names (map item_view l.items))

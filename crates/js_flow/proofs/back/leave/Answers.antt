@@ -1,6 +1,0 @@
-use Rattle.std.proofs.Common.{refl}
-use Rattle.js_flow.proofs.Caught.{on_any}
-use Rattle.js_flow.proofs.back.leave.Goals as goal
-
-pub returns : goal.returns
-returns c = record { value = on_any c.leave_slots.result (record { left = refl; objects = refl; globals = refl; body = refl; locals = c.replace-slots.ensures.after; caught = refl }) }

@@ -1,4 +1,0 @@
-pub mod Returned
-pub mod Back
-pub mod PopLaws
-pub mod FlowLaws

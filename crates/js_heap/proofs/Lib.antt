@@ -1,2 +1,0 @@
-pub mod DictionaryLemmas
-pub mod Objects

@@ -1,0 +1,6 @@
+use Rattle.std.proofs.Common.{sym}
+use Rattle.js_nodes.proofs.Forms.{no_index}
+use Rattle.js_nodes.proofs.stmt_nodes.node_stmt.is_index.Goals as goal
+
+pub returns-in_default : goal.returns-in_default
+returns-in_default c = sym (no_index c.args.e.now c.in_default.not-Index)

@@ -1,6 +1,0 @@
-use Rattle.std.proofs.Common.{sym}
-use Rattle.js_stmt_nodes.proofs.Forms.{no_index}
-use Rattle.js_stmt_nodes.proofs.node_stmt.is_index.Goals as goal
-
-pub returns-in_default : goal.returns-in_default
-returns-in_default c = sym (no_index c.args.e.now c.in_default.not-Index)

@@ -1,7 +1,0 @@
-use Rattle.std.proofs.Common.{◌∙◌, sym}
-use Rattle.js_tree.specs.View.{expr_view}
-use Rattle.js_stmt_nodes.proofs.Forms.{no_index, stores_nothing}
-use Rattle.js_stmt_nodes.proofs.node_stmt.store.Goals as goal
-
-pub returns-in_default : goal.returns-in_default
-returns-in_default c = c.without.ensures ∙ sym (stores_nothing c.args.at (expr_view c.args.e) (expr_view c.args.v) (no_index c.args.e c.in_default.not-Index))

@@ -1,0 +1,14 @@
+use Rattle.std.proofs.Common.{subst, List, length, ◌<◌, ◌≡◌, None}
+use Rattle.js_value.specs.declared.value.heap.Object.{Object}
+use Rattle.js_value.specs.ValueSeen.{value_of, objects_of, object_at}
+use Rattle.js_value.proofs.ValueObjects.{stored_is, stored_none, same_ok}
+use Rattle.js_value.proofs.value.heap.store.Goals as goal
+
+pub returns-in-Some-clause-value : goal.returns-in-Some-clause-value
+returns-in-Some-clause-value c = stored_is c.args.objects.now.items c.in-Some.id c.index_mut.result.now c.store_in.new.object (value_of c.args.a.now) (value_of c.args.i.now) (value_of c.args.v) c.store_in.result c.in-Some.ensures.found.0 (subst (λ (os : List Object). c.in-Some.id < length os) c.as_slice.ensures.value c.in-Some.ensures.found.1) c.index_mut.ensures.value c.store_in.ensures.value
+
+pub returns-in-Some-clause-same : goal.returns-in-Some-clause-same
+returns-in-Some-clause-same c = same_ok c.args.objects.now.items c.in-Some.id c.index_mut.result.now c.store_in.new.object c.store_in.result c.index_mut.ensures.value c.store_in.ensures.same
+
+pub returns-in-None-clause-value : goal.returns-in-None-clause-value
+returns-in-None-clause-value c = stored_none (objects_of c.args.objects.now.items) (value_of c.args.a.now) (value_of c.args.i.now) (value_of c.args.v) (subst (λ (os : List Object). object_at (objects_of os) (value_of c.args.a.now) ≡ None) c.as_slice.ensures.value c.in-None.ensures.none)
