@@ -4,7 +4,7 @@ set -e
 here=$(cd "$(dirname "$0")" && pwd)
 work=$(mktemp -d)
 trap 'rm -rf "$work"' EXIT
-below='gj_base go_syntax go_lexer go_grammar go_frames go_ends go_begins go_expr_steps go_field_steps go_simple_steps go_stmt_steps go_control_steps go_parser'
+below='gj_base go_syntax go_lexer go_grammar go_frames go_expr_steps go_field_steps go_stmt_steps go_control_steps go_parser'
 
 # What `rt check` and `rt lib` have built of the crates is copied with them, so that it isn't built anew.
 mkdir -p "$work/crates/parse_time/src"
@@ -14,15 +14,15 @@ for crate in $below; do
     (cd "$here/../../crates/$crate" && tar cf - --exclude=out/incremental .) | (cd "$work/crates/$crate" && tar xf -)
     grep -E "^$crate:" "$here/../../crates.txt" >> "$work/crates.txt"
 done
-echo 'parse_time: go_parser go_lexer go_ends go_frames go_syntax gj_base' >> "$work/crates.txt"
+echo 'parse_time: go_parser go_lexer go_frames go_syntax gj_base' >> "$work/crates.txt"
 cat > "$work/crates/parse_time/src/main.rt" <<'END'
 //! Lexes standard input and, with no argument, parses it too, and prints the microseconds of both.
 #![tactic(auto)]
 
 use gj_base::Refusal;
-use go_ends::file::cut_off;
-use go_frames::frame::{FileFrame, Frame};
-use go_frames::stack::Stack;
+use go_frames::ends::file::cut_off;
+use go_frames::frames::frame::{FileFrame, Frame};
+use go_frames::frames::stack::Stack;
 use go_lexer::lex;
 use go_parser::parse;
 use std::env;

@@ -17,13 +17,13 @@ for script in script empty; do
 done
 
 mkdir -p "$work/crates/read_time/src"
-crates='gj_base js_tree js_grammar js_nodes js_expr js_stmt_nodes js_read'
+crates='gj_base js_tree js_grammar js_nodes js_expr js_read'
 for crate in $crates; do
     mkdir "$work/crates/$crate"
     (cd "$here/../../crates/$crate" && tar cf - --exclude=incremental .) | (cd "$work/crates/$crate" && tar xf -)
     grep -E "^$crate:" "$here/../../crates.txt" >> "$work/crates.txt"
 done
-echo 'read_time: js_read js_expr js_stmt_nodes js_nodes js_grammar js_tree gj_base itoa thiserror' >> "$work/crates.txt"
+echo 'read_time: js_read js_expr js_nodes js_grammar js_tree gj_base itoa thiserror' >> "$work/crates.txt"
 cat > "$work/crates/read_time/src/main.rt" <<'END'
 //! Reads the script on standard input three times, and prints how it went and the microseconds.
 #![tactic(auto)]
