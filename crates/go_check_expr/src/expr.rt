@@ -65,7 +65,8 @@ fn form(c: &mut Checker, e: &Expr, around: Around) -> Result<Operand, NoMemory> 
     match &*e.form {
         ExprForm::Name(_) | ExprForm::Int(_) | ExprForm::Rune(_) | ExprForm::Str(_) => leaf(c, e),
         ExprForm::Paren(x) => operand(c, x, around),
-        ExprForm::Unary(_, _) | ExprForm::Binary(_, _, _) => operation(c, e),
+        ExprForm::Unary(_, _) => operation(c, e),
+        ExprForm::Binary(_, _, _) => chain(c, e),
         ExprForm::Select(_, _) | ExprForm::Index(_, _) | ExprForm::Assert(_, _) => primary(c, e),
         ExprForm::Slice(_, _, _, _) => slice_form(c, e),
         ExprForm::Call(_, _, _) => call_form(c, e),
@@ -96,10 +97,22 @@ fn operation(c: &mut Checker, e: &Expr) -> Result<Operand, NoMemory> {
             let x = operand(c, x, NOTHING)?;
             unary_row(c, e.place, *prefix, x, literal)
         }
+        _ => c.unknown(e.place),
+    }
+}
+
+// Two operands, of which the left one may be the same chain's: a link takes the room of this function alone.
+#[cycle(operand)]
+fn chain(c: &mut Checker, e: &Expr) -> Result<Operand, NoMemory> {
+    match &*e.form {
         ExprForm::Binary(x, op, y) => {
-            let x = operand(c, x, NOTHING)?;
+            let x = match &*x.form {
+                ExprForm::Binary(_, _, _) => chain(c, x)?,
+                _ => operand(c, x, NOTHING)?,
+            };
             let y = operand(c, y, NOTHING)?;
-            binary(c, e.place, *op, x, y)
+            let z = binary(c, e.place, *op, x, y)?;
+            finished(c, e.place, z)
         }
         _ => c.unknown(e.place),
     }

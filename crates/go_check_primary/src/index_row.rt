@@ -19,10 +19,13 @@ pub fn index_row(
     if x.is_unknown() || i.is_unknown() {
         return c.unknown(place);
     }
-    let x = indexed(c, x)?;
+    let x = single_value(c, x)?;
     let i = single_value(c, i)?;
     if x.is_unknown() || i.is_unknown() {
         return c.unknown(place);
+    }
+    if x.is_nil() {
+        return c.fail(FaultCode::UntypedNil, x.place);
     }
     if c.is_string(x.ty) {
         return byte_at(c, place, x, i);
@@ -45,14 +48,6 @@ fn not_indexed(c: &mut Checker, place: Place, i: Operand) -> Result<Operand, NoM
         return c.fail(FaultCode::UntypedNil, i.place);
     }
     c.fail(FaultCode::NotIndexable, place)
-}
-
-// What is indexed or sliced.
-fn indexed(c: &mut Checker, x: Operand) -> Result<Operand, NoMemory> {
-    if x.is_nil() {
-        return c.fail(FaultCode::UntypedNil, x.place);
-    }
-    single_value(c, x)
 }
 
 fn byte_at(c: &mut Checker, place: Place, x: Operand, i: Operand) -> Result<Operand, NoMemory> {
@@ -240,11 +235,22 @@ fn node_of(x: Option<Operand>) -> Option<NodeId> {
     }
 }
 
-// A bound as a value: F73 of `nil`.
+// A bound as a value.
 fn bound_value(c: &mut Checker, x: Option<Operand>) -> Result<Option<Operand>, NoMemory> {
     match x {
-        Some(x) => Ok(Some(indexed(c, x)?)),
+        Some(x) => Ok(Some(single_value(c, x)?)),
         None => Ok(None),
+    }
+}
+
+// Whether a bound is `nil`: F73.
+fn is_nil_bound(c: &mut Checker, x: Option<Operand>) -> Result<bool, NoMemory> {
+    match x {
+        Some(x) if x.is_nil() => {
+            c.fault(FaultCode::UntypedNil, x.place)?;
+            Ok(true)
+        }
+        _ => Ok(false),
     }
 }
 
@@ -260,11 +266,18 @@ pub fn slice_row(
     if x.is_unknown() || are_unknown(low, high, max) {
         return c.unknown(place);
     }
-    let x = indexed(c, x)?;
+    let x = single_value(c, x)?;
     let low = bound_value(c, low)?;
     let high = bound_value(c, high)?;
     let max = bound_value(c, max)?;
     if x.is_unknown() || are_unknown(low, high, max) {
+        return c.unknown(place);
+    }
+    if is_nil_bound(c, Some(x))?
+        || is_nil_bound(c, low)?
+        || is_nil_bound(c, high)?
+        || is_nil_bound(c, max)?
+    {
         return c.unknown(place);
     }
     let Some((t, limit, is_text)) = sliced(c, x)? else {

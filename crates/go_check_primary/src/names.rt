@@ -41,10 +41,18 @@ fn is_done(c: &Checker, unit: u32) -> bool {
     }
 }
 
-// A name of the package whose declaration isn't typed yet: of a named type the name alone will do.
+fn is_stuck(c: &Checker, unit: u32) -> bool {
+    match c.units.get(unit as usize) {
+        Some(Colour::Stuck) => true,
+        _ => false,
+    }
+}
+
+// A name of the package whose declaration isn't typed yet: of a named type that may come to stand for
+// something the name alone will do.
 fn undone(c: &mut Checker, place: Place, unit: u32, entity: Entity) -> Result<Operand, NoMemory> {
     if let Entity::TypeName(t) = entity {
-        if c.has(t) {
+        if c.has(t) && !is_stuck(c, unit) {
             return c.plain(Mode::TypeName, place, t);
         }
     }

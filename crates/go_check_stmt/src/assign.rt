@@ -40,12 +40,20 @@ pub fn is_blank(e: &Expr) -> bool {
     }
 }
 
+// An expression without the parentheses around it.
+fn bare(e: &Expr) -> &Expr {
+    match &*e.form {
+        ExprForm::Paren(x) => bare(x),
+        _ => e,
+    }
+}
+
 /// A left side. An occurrence that is a whole left side is no use.
 pub fn left_side(c: &mut Checker, e: &Expr) -> Result<Left, NoMemory> {
     if is_blank(e) {
         return Ok(NOWHERE);
     }
-    let x = not_used(c, e)?;
+    let x = not_used(c, bare(e))?;
     target(c, x)
 }
 
@@ -175,12 +183,12 @@ pub fn assign_op(
     if let (Some(e), Some(r)) = (only(left), only(right)) {
         let x = read_side(c, e)?;
         let y = expr(c, r)?;
-        return update(c, x, op, y);
+        return update(c, x, bare(e).place, op, y);
     }
     let mut typed = true;
     for e in left {
         if !is_blank(e) {
-            let x = expr(c, e)?;
+            let x = expr(c, bare(e))?;
             let side = target(c, x)?;
             typed &= is_typed(c, side);
         }
@@ -227,9 +235,15 @@ fn held(
     }
 }
 
-// The value of the operator goes back to the left side.
-fn update(c: &mut Checker, x: Operand, op: Op, y: Operand) -> Result<StmtId, NoMemory> {
-    let left = target(c, x)?;
+// The value of the operator goes back to the left side, which stands at a place.
+fn update(
+    c: &mut Checker,
+    x: Operand,
+    place: Place,
+    op: Op,
+    y: Operand,
+) -> Result<StmtId, NoMemory> {
+    let left = target(c, Operand { place, ..x })?;
     if !is_typed(c, left) {
         return nothing(c);
     }
@@ -261,7 +275,7 @@ pub fn inc_dec(
     let x = read_side(c, e)?;
     let one = c.add_const(Const::Int(1))?;
     let y = c.constant_operand(x.place, untyped_id(Basis::Int), one)?;
-    update(c, x, if up { Op::Add } else { Op::Sub }, y)
+    update(c, x, bare(e).place, if up { Op::Add } else { Op::Sub }, y)
 }
 
 /// A left side of `:=`: a name, with the object of the innermost block that has it. What is no name has none.
