@@ -608,9 +608,9 @@ class Maker(Forms):
         body = self.stmts(env, 1, rs, 1, [])
         head = ', '.join(f'p{i}_{j} {self.name(t)}' for j, t in enumerate(ps))
         self.pure = False
+        last = ", ".join(self.expr(t, env, 2) for t in rs)
         (self.funcs if pure else self.changers).append((name, ps, rs))
-        return [f'func {name}({head}) ({", ".join(self.name(t) for t in rs)}) {{'] + body + \
-            [f'\treturn {", ".join(self.expr(t, env, 2) for t in rs)}', '}', '']
+        return [f'func {name}({head}) ({", ".join(self.name(t) for t in rs)}) {{'] + body + [f'\treturn {last}', '}', '']
 
     def struct(self, k):
         fields = [(f'f{k}_{i}', t) for i, t in enumerate([self.r.choice(INTS)] + [self.type(1) for _ in range(self.r.randint(0, 3))])
