@@ -1,4 +1,0 @@
-pub mod Around
-pub mod Known
-pub mod ListView
-pub mod Statements

@@ -1,5 +1,0 @@
-pub mod Given
-pub mod Fields
-pub mod Lists
-pub mod Measures
-pub mod Methods
