@@ -17,7 +17,9 @@ use go_frames::ends::refused::{deep, stuck, stuck_at, stuck_with};
 use go_frames::frames::at::At;
 use go_frames::frames::ctx::Ctx;
 use go_frames::frames::frame::{FieldFrame, Frame, InterfacePart, StructPart, TypeFrame, Value};
-use go_frames::frames::node::{array_type, chan_type, function_type, map_type, paren, slice_type, star};
+use go_frames::frames::node::{
+    array_type, chan_type, function_type, map_type, paren, slice_type, star,
+};
 use go_frames::frames::stack::{Answer, Stack, done, goes, over};
 use go_syntax::tree::{ChanDir, Expr, Sig};
 use go_syntax::{Keyword, Operator};

@@ -21,7 +21,9 @@ use go_frames::ends::refused::{deep_at, stuck_at, stuck_with};
 use go_frames::frames::at::{At, begins_type};
 use go_frames::frames::ctx::Ctx;
 use go_frames::frames::form::{param, sig_of_many, sig_of_none, sig_of_one};
-use go_frames::frames::frame::{FileFrame, Frame, ParamList, ParamsPart, Role, SigFrame, TypeFrame, Value};
+use go_frames::frames::frame::{
+    FileFrame, Frame, ParamList, ParamsPart, Role, SigFrame, TypeFrame, Value,
+};
 use go_frames::frames::node::{name, name_expr};
 use go_frames::frames::stack::{Answer, Stack, done, goes, over};
 use go_syntax::Operator;

@@ -12,13 +12,13 @@ use go_control_steps::control::{
 use go_control_steps::switch::{
     switch_meets_expr, switch_meets_guard, switch_meets_stmt, switch_row,
 };
-use go_frames::ends::file::{stuck_below, unnamed};
-use go_frames::ends::refused::stuck_with;
 use go_expr_steps::expr::{body_meets, chain_meets, expr_meets, expr_row, func_meets, guard_meets};
 use go_expr_steps::part::{part_meets, part_row};
 use go_expr_steps::types::{type_meets, type_row, type_sig_meets};
 use go_field_steps::field::{field_meets, field_row, method_meets};
 use go_field_steps::sig::{sig_meets, sig_row};
+use go_frames::ends::file::{stuck_below, unnamed};
+use go_frames::ends::refused::stuck_with;
 use go_frames::frames::at::At;
 use go_frames::frames::frame::{Frame, Value};
 use go_frames::frames::stack::{Answer, Flow, Stack, over};

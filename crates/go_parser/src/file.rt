@@ -8,12 +8,12 @@ ghost use Rattle.go_syntax.specs.View.{sig_view, block_view, decl_view, import_v
 ghost use Rattle.go_frames.specs.FrameView.{Comes, token_of, receiver_in, file_part, file_frame, stack_view};
 
 use gj_base::{NoMemory, Place, Text};
+use go_field_steps::sig::open_params;
 use go_frames::begins::decl::begin_decl;
 use go_frames::ends::file::{lost_decl, lost_func, lost_import, lost_path, stuck_func};
 use go_frames::ends::list::{and_decl, and_import};
 use go_frames::ends::lost::{lost, lost_at};
 use go_frames::ends::refused::{stuck, stuck_at, stuck_with};
-use go_field_steps::sig::open_params;
 use go_frames::frames::at::At;
 use go_frames::frames::ctx::Ctx;
 use go_frames::frames::form::{func_decl, method_decl};

@@ -17,10 +17,10 @@ use crate::operate::{allocate, binary, given, number, pop, slot_value, truth_of}
 use crate::state::{Context, Halt};
 use indexmap::IndexMap;
 use js_code::code::Part;
+use js_tree::{BinaryOp, UnaryOp};
 use js_value::heap::heap::{self, Object};
 use js_value::heap::operate::{char_code, decimal_text, one_byte, part_of, unary_value};
 use js_value::heap::value::Value;
-use js_tree::{BinaryOp, UnaryOp};
 
 /// The number beside the name of a function of the host, under which a run keeps no function.
 pub const HOST: u32 = 4294967295;

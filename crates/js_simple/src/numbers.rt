@@ -14,9 +14,9 @@ ghost use Rattle.js_simple.specs.PartDoes.{eval_at, eval_part, expr_in, value_do
 
 use crate::state::{Context, Slot};
 use js_code::code::Part;
+use js_tree::BinaryOp;
 use js_value::heap::heap::Object;
 use js_value::heap::value::Value;
-use js_tree::BinaryOp;
 use js_value::value::arithmetic::{
     bit_and, bit_or, bit_xor, difference, natural, product, quotient, remainder, shifted_left,
     shifted_right, shifted_right_unsigned, sum,

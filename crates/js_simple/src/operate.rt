@@ -11,10 +11,10 @@ ghost use Rattle.js_simple.specs.Seen.{Anywhere, Changes, slots_in};
 use crate::state::{Halt, Slot};
 use bumpalo::Bump;
 use gj_base::NoMemory;
+use js_tree::BinaryOp;
 use js_value::heap::heap::{self, Object};
 use js_value::heap::operate::on_values;
 use js_value::heap::value::{Value, same_value};
-use js_tree::BinaryOp;
 use js_value::value::arithmetic;
 
 /// A value that may be missing: without it the operation at the offset has no meaning.
