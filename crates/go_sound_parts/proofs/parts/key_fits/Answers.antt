@@ -1,0 +1,6 @@
+use Rattle.go_type.specs.Levels.{tree_of}
+use Rattle.go_type.specs.Table.{places}
+use Rattle.go_sound_parts.proofs.parts.key_fits.Goals as goal
+
+pub returns-in-Some : goal.returns-in-Some
+returns-in-Some c = record { is = λ h. (tree_of (places c.args.p.now.types) c.in-Some.k, c.gives.ensures.is h, c.in-Some.ensures.is) }

@@ -1,0 +1,5 @@
+pub mod Given
+pub mod Fields
+pub mod Lists
+pub mod Measures
+pub mod Methods
