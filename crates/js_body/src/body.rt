@@ -8,7 +8,7 @@ use go_core::tree::FuncId;
 use go_type::TypeTable;
 use go_type::types::TypeId;
 use js_facts::Facts;
-use js_pool::{Block, Cases, ExprId, Mark, Name, Node, Pool, Stmt};
+use js_pool::{Cases, ExprId, Mark, Name, Pool};
 
 /// What is known of a value before the script runs.
 #[derive(Clone, Copy, PartialEq, Eq)]
@@ -68,7 +68,7 @@ pub struct Body<'p> {
     /// Values, from the first one on; how many temporaries there are, and which a plain function declared.
     pub stack: Vec<Operand>,
     pub temps: u32,
-    declared: Vec<bool>,
+    pub(crate) declared: Vec<bool>,
     /// How many loops of a plain function are around, and what is known of slices in them.
     pub loops: u32,
     pub slices: Slices,
@@ -82,14 +82,6 @@ pub struct Body<'p> {
     pub first_case: Mark,
     /// So many numbers of arguments have adapters, from none on: frames that call a plain function.
     pub adapters: u32,
-}
-
-// Whether a name is that of the temporary at a place of the stack.
-fn is_temp(x: Name, place: usize) -> bool {
-    match x {
-        Name::Numbered(word, k) => k as usize == place && *word == *b"$t".as_slice(),
-        _ => false,
-    }
 }
 
 impl<'p> Body<'p> {
@@ -284,247 +276,6 @@ impl<'p> Body<'p> {
             return;
         }
         self.set_slot(n, e);
-    }
-
-    // ---- values on the stack
-
-    /// How many values there are.
-    pub fn depth(&self) -> usize {
-        self.stack.len()
-    }
-
-    fn put(&mut self, o: Operand) {
-        if self.stack.push(o).is_err() {
-            self.pool.failed = true;
-        }
-    }
-
-    // Sets the temporary at a place of the stack, and gives its name.
-    fn set_temp(&mut self, place: usize, e: ExprId) -> ExprId {
-        let k = if place < 4294967295 { place as u32 } else { 0 };
-        if self.temps <= k {
-            self.temps = k.saturating_add(1);
-        }
-        let x = Name::Numbered(b"$t", k);
-        if self.plain && !self.is_declared(place) {
-            self.set_declared(place, true);
-            self.pool.declare(x, e);
-        } else {
-            self.pool.assign(x, e);
-        }
-        self.pool.named(x)
-    }
-
-    // Whether a plain function has declared a temporary: the first statement that sets one does.
-    fn is_declared(&self, place: usize) -> bool {
-        match self.declared.get(place) {
-            Some(b) => *b,
-            None => false,
-        }
-    }
-
-    fn set_declared(&mut self, place: usize, b: bool) {
-        for _ in self.declared.len()..place.saturating_add(1) {
-            if self.declared.push(false).is_err() {
-                self.pool.failed = true;
-            }
-        }
-        if place < self.declared.len() {
-            self.declared[place] = b;
-        }
-    }
-
-    /// One more value, in its temporary.
-    pub fn push(&mut self, e: ExprId) {
-        let place = self.stack.len();
-        let e = self.set_temp(place, e);
-        self.put(Operand {
-            e,
-            known: Known::Nothing,
-        });
-    }
-
-    /// One more value, a constant.
-    pub fn push_known(&mut self, e: ExprId, known: Known) {
-        self.put(Operand { e, known });
-    }
-
-    /// One more value, which is this operand.
-    pub fn push_operand(&mut self, o: Operand) {
-        match o.known {
-            Known::Nothing => self.push(o.e),
-            known => self.push_known(o.e, known),
-        }
-    }
-
-    /// Takes the last value from the stack.
-    pub fn pop(&mut self) -> Operand {
-        match self.stack.pop() {
-            Some(o) => o,
-            None => Operand {
-                e: ExprId(0),
-                known: Known::Nil,
-            },
-        }
-    }
-
-    // What the last statement of a plain function sets the last value's temporary to, where it does so.
-    fn just_set(&self) -> Option<ExprId> {
-        if !self.plain || self.last().known != Known::Nothing {
-            return None;
-        }
-        let place = self.stack.len().saturating_sub(1);
-        match self.pool.lines.last() {
-            Some(Stmt::Assign(x, e)) if is_temp(*x, place) => Some(*e),
-            Some(Stmt::Declare(x, e)) if is_temp(*x, place) => Some(*e),
-            _ => None,
-        }
-    }
-
-    // The last statement, which sets a temporary, goes.
-    fn unset(&mut self, place: usize) {
-        if let Some(Stmt::Declare(_, _)) = self.pool.lines.pop() {
-            self.set_declared(place, false);
-        }
-    }
-
-    /// Takes the last value from the stack, which a statement right after uses once: where the last statement sets its
-    /// temporary, what it is set to stands for it, and that statement goes.
-    pub fn take(&mut self) -> ExprId {
-        let set = self.just_set();
-        let o = self.pop();
-        match set {
-            Some(e) => {
-                let place = self.stack.len();
-                self.unset(place);
-                e
-            }
-            None => o.e,
-        }
-    }
-
-    /// The same for an operand of a call: no call stands in it.
-    pub fn take_operand(&mut self) -> ExprId {
-        match self.just_set() {
-            Some(e) if self.is_operation(e) => self.take(),
-            _ => self.pop().e,
-        }
-    }
-
-    fn is_operation(&self, e: ExprId) -> bool {
-        match self.pool.node(e) {
-            Node::Unary(_, _) | Node::Binary(_, _, _) | Node::Index(_, _) | Node::Length(_) => true,
-            _ => false,
-        }
-    }
-
-    /// Joins the last value with what a block sets it to, where that is all that the block does: then the operator does
-    /// what the block would.
-    pub fn join(&mut self, block: Block, both: bool) -> bool {
-        let place = self.stack.len().saturating_sub(1);
-        let (Some(left), Some(right)) = (self.just_set(), self.only_set(block, place)) else {
-            return false;
-        };
-        if self.is_joined(left) || self.is_joined(right) {
-            return false;
-        }
-        self.unset(place);
-        let e = if both {
-            self.pool.both(left, right)
-        } else {
-            self.pool.either(left, right)
-        };
-        self.set_temp(place, e);
-        true
-    }
-
-    // What the temporary at a place of the stack is set to by a block that does nothing else.
-    fn only_set(&self, block: Block, place: usize) -> Option<ExprId> {
-        match block.of(self.pool.stmts.as_slice()) {
-            [only] => match *only {
-                Stmt::Assign(x, e) if is_temp(x, place) => Some(e),
-                _ => None,
-            },
-            _ => None,
-        }
-    }
-
-    fn is_joined(&self, e: ExprId) -> bool {
-        match self.pool.node(e) {
-            Node::And(_, _) | Node::Or(_, _) => true,
-            _ => false,
-        }
-    }
-
-    /// The last value of the stack.
-    pub fn last(&self) -> Operand {
-        self.value_at(self.stack.len().saturating_sub(1))
-    }
-
-    /// The value at a place of the stack.
-    pub fn value_at(&self, place: usize) -> Operand {
-        match self.stack.get(place) {
-            Some(o) => *o,
-            None => Operand {
-                e: ExprId(0),
-                known: Known::Nil,
-            },
-        }
-    }
-
-    /// Takes all values from a place on from the stack.
-    pub fn drop_to(&mut self, place: usize) {
-        self.stack.truncate(place);
-    }
-
-    /// Sets the temporary of a value on the stack anew.
-    pub fn set_value(&mut self, place: usize, e: ExprId) {
-        let e = self.set_temp(place, e);
-        if place < self.stack.len() {
-            self.stack[place] = Operand {
-                e,
-                known: Known::Nothing,
-            };
-        }
-    }
-
-    /// The last value becomes a temporary, where it is a constant.
-    pub fn settle(&mut self) {
-        let o = self.pop();
-        match o.known {
-            Known::Nothing => self.put(o),
-            _ => self.push(o.e),
-        }
-    }
-
-    /// The last value becomes a temporary, where it is a constant and no variable.
-    pub fn settle_constant(&mut self) {
-        if self.last().known != Known::Variable {
-            self.settle();
-        }
-    }
-
-    /// Values that are variables become temporaries, since assignments follow.
-    pub fn settle_variables(&mut self) {
-        for i in 0..self.depth() {
-            let o = self.value_at(i);
-            if o.known == Known::Variable {
-                self.set_value(i, o.e);
-            }
-        }
-    }
-
-    /// A temporary above all values, which is gone with the next one.
-    pub fn scratch(&mut self, e: ExprId) -> ExprId {
-        self.push(e);
-        self.pop().e
-    }
-
-    /// A frame that calls a plain function with so many arguments is needed.
-    pub fn need_adapter(&mut self, arguments: u32) {
-        if self.adapters <= arguments {
-            self.adapters = arguments.saturating_add(1);
-        }
     }
 
     // ---- labels

@@ -12,6 +12,7 @@ pub mod cases;
 pub mod frame;
 pub mod panics;
 pub mod slices;
+pub mod stack;
 pub mod values;
 pub mod vars;
 pub mod zeros;

@@ -1,5 +1,8 @@
 //! Run-time panics: the values `$p1` to `$p12` stand at the script's top, and `$panic` throws one.
 
+ghost use Rattle.js_body.specs.State.{panicked, panicked_if, panic_tree};
+ghost use Rattle.js_body.specs.Tells.{Runs, Runs1};
+
 use crate::body::{Body, Operand};
 use gj_base::Kind;
 use js_facts::held::{is_signed, is_wide};
@@ -7,19 +10,25 @@ use js_pool::{Block, ExprId};
 
 impl<'p> Body<'p> {
     /// Throws a value as a panic.
-    pub fn panic_with(&mut self, value: ExprId) {
+    pub fn panic_with(&mut self, value: ExprId)
+        ensures { Runs1 self.old self.new value panicked }
+    {
         let call = self.pool.call1(b"$panic", value);
         self.pool.perform(call);
     }
 
     /// The run-time panic with this number.
-    pub fn panic(&mut self, number: u32) {
+    pub fn panic(&mut self, number: u32)
+        ensures { Runs self.old self.new (panicked (panic_tree number)) }
+    {
         let value = self.pool.name_of(b"$p", number);
         self.panic_with(value);
     }
 
     /// The run-time panic with this number where a test holds.
-    pub fn panic_if(&mut self, test: ExprId, number: u32) {
+    pub fn panic_if(&mut self, test: ExprId, number: u32)
+        ensures { Runs1 self.old self.new test (panicked_if number) }
+    {
         let mark = self.pool.open();
         self.panic(number);
         let block = self.pool.close(mark);

@@ -1,0 +1,364 @@
+-- What a step does to what the parts of a body tell.
+use Rattle.std.proofs.Common.{◌≡◌, ℕ, zero, suc, ◌+◌, ◌-◌, ◌<◌, min, nat_le, arith, ap₂, if◌then◌else◌, List, [], ◌∷◌, ◌++◌, reverse, length, Bool, true, false, Option, Some, None, refl, sym, ap, ◌∙◌, subst, true≢false}
+use Rattle.std.proofs.lemmas.List.{reverse-append, length-reverse, nil_from_length}
+use Rattle.std.proofs.lemmas.Option.{slice_get_within, slice_get-get_or}
+use Rattle.std.specs.List.{slice_get}
+use Rattle.js_tree.specs.Script.{Expr}
+use Rattle.js_pool.specs.Stands as rule
+use Rattle.js_pool.specs.Stands.{Stands, Shows, Holds, Later, Grows, Keeps, Opened, opened}
+use Rattle.js_pool.specs.Says.{AddsLine}
+use Rattle.js_pool.specs.declared.node.ExprId.{ExprId}
+use Rattle.js_pool.specs.declared.name.Name.{Name}
+use Rattle.js_pool.specs.declared.node.Node.{Node}
+use Rattle.js_pool.specs.declared.node.Stmt.{Stmt}
+use Rattle.js_pool.specs.declared.node.Stmt.TheVariants as line
+use Rattle.js_body.specs.declared.body.Known.{Known}
+use Rattle.js_body.specs.declared.body.Known.TheVariants as known
+use Rattle.js_pool.specs.declared.pool.Pool.{Pool}
+use Rattle.js_body.specs.declared.body.Operand.{Operand}
+use Rattle.js_body.specs.State.{State, Value, Line, declares, assigns, is_temp, set_by, declares_first, dropped_line, is_operation, pushed_known, pushed_operand, no_value, first_value, rest_of, with_line, pushed_value, last_value, popped, marked, with_declared, with_temp}
+use Rattle.js_body.specs.Tells.{word_of, sets_name, is_declaration, first_declares, DropsLine, does_operation, MayStand, stands_none, stands_some, PartsTell, LineIs, declared, assigned, said, LinesAre, no_line, more_lines, ValueIs, ValuesAre, no_values, more_values}
+use Rattle.js_body.specs.Later.{itself, stands_later, says_later}
+
+-- where memory ran out nothing comes later
+pub fails : (p q : Pool) → q.failed ≡ true → Grows p q
+unfolding Later
+fails p q e end g = absurd (true≢false (sym e ∙ g.sound))
+
+pub no_more : (q : Pool) → q.failed ≡ true → q.failed ≡ false → ⊥
+no_more q e l = true≢false (sym e ∙ l)
+
+pub earlier : (p q : Pool) → Grows p q → q.failed ≡ false → p.failed ≡ false
+unfolding Later
+earlier p q g l = (g q (itself q l)).sound
+
+pub from_here : (p q : Pool) → Grows p q → q.failed ≡ false → Later p q
+from_here p q g l = g q (itself q l)
+
+pub line_later : {p q : Pool} → Later p q → {x : Stmt} {l : Line} → LineIs p x l → LineIs q x l
+line_later g (declared a) = declared (stands_later g a)
+line_later g (assigned a) = assigned (stands_later g a)
+line_later g (said e s) = said e (says_later g s)
+
+pub lines_later : {p q : Pool} → Later p q → {xs : List Stmt} {ls : List Line} → LinesAre p xs ls → LinesAre q xs ls
+lines_later g no_line = no_line
+lines_later g (more_lines h t) = more_lines (line_later g h) (lines_later g t)
+
+pub value_later : {p q : Pool} → Later p q → {o : Operand} {v : Value} → ValueIs p o v → ValueIs q o v
+value_later g h = record { stands = stands_later g h.stands; known = h.known }
+
+pub values_later : {p q : Pool} → Later p q → {os : List Operand} {vs : List Value} → ValuesAre p os vs → ValuesAre q os vs
+values_later g no_values = no_values
+values_later g (more_values h t) = more_values (value_later g h) (values_later g t)
+
+pub rev_push : {A : Type 0} (xs ys : List A) (x : A) → ys ≡ xs ++ x ∷ [] → reverse ys ≡ x ∷ reverse xs
+rev_push xs ys x e = ap reverse e ∙ reverse-append xs (x ∷ [])
+
+module _ (p q : Pool) (os : List Operand) (temps : ℕ) (ds : List Bool) (plain : Bool) (s : State) where
+  pub parts_later : (o : Opened) → Later p q → PartsTell p o os temps ds plain s → PartsTell q o os temps ds plain s
+  parts_later o g t = record {
+    first = stands_later g t.first;
+    lines = lines_later g t.lines;
+    stack = values_later g t.stack;
+    temps_are = t.temps_are;
+    declared_are = t.declared_are;
+    plain_is = t.plain_is;
+  }
+
+  -- nothing but expressions was added
+  pub parts_kept : Keeps p q → q.failed ≡ false → PartsTell p (opened p) os temps ds plain s → PartsTell q (opened q) os temps ds plain s
+  parts_kept k l t = subst (λ (o : Opened). PartsTell q o os temps ds plain s) (sym k.1) (parts_later (opened p) (from_here p q k.0 l) t)
+
+  -- one more statement
+  pub parts_line : (x : Stmt) (l : Line) → AddsLine p q x → q.failed ≡ false → LineIs q x l → PartsTell p (opened p) os temps ds plain s → PartsTell q (opened q) os temps ds plain (with_line l s)
+  parts_line x l a e h t =
+      let g : Later p q = from_here p q a.0 e in
+      let o : (opened q).lines ≡ (opened p).lines ++ x ∷ [] = ap (λ (z : Opened). z.lines) (a.1 q (itself q e)) in
+      let r : x ∷ reverse (opened p).lines ≡ reverse (opened q).lines = sym (rev_push (opened p).lines (opened q).lines x o) in
+      record {
+        first = stands_later g t.first;
+        lines = subst (λ (xs : List Stmt). LinesAre q xs (l ∷ s.lines)) r (more_lines h (lines_later g t.lines));
+        stack = values_later g t.stack;
+        temps_are = t.temps_are;
+        declared_are = t.declared_are;
+        plain_is = t.plain_is;
+      }
+
+-- one more value
+pub parts_value : (p : Pool) (o : Opened) (os xs : List Operand) (temps : ℕ) (ds : List Bool) (plain : Bool) (s : State) (x : Operand) (v : Value)
+    → xs ≡ os ++ x ∷ [] → ValueIs p x v → PartsTell p o os temps ds plain s → PartsTell p o xs temps ds plain (pushed_value v s)
+parts_value p o os xs temps ds plain s x v e h t = record {
+  first = t.first;
+  lines = t.lines;
+  stack = subst (λ (zs : List Operand). ValuesAre p zs (v ∷ s.stack)) (sym (rev_push os xs x e)) (more_values h t.stack);
+  temps_are = t.temps_are;
+  declared_are = t.declared_are;
+  plain_is = t.plain_is;
+}
+
+top_value : (p : Pool) (o : Operand) (os : List Operand) (vs : List Value) → ValuesAre p (o ∷ os) vs → ValueIs p o (first_value vs) × ValuesAre p os (rest_of vs)
+top_value p o os _ (more_values h t) = (h, t)
+
+no_top : (p : Pool) (vs : List Value) → ValuesAre p [] vs → (first_value vs ≡ no_value) × ValuesAre p [] (rest_of vs)
+no_top p _ no_values = (refl, no_values)
+
+-- one value less
+pub parts_popped : (p : Pool) (o : Opened) (os xs : List Operand) (temps : ℕ) (ds : List Bool) (plain : Bool) (s : State) (x : Operand)
+    → os ≡ xs ++ x ∷ [] → PartsTell p o os temps ds plain s → ValueIs p x (last_value s) × PartsTell p o xs temps ds plain (popped s)
+parts_popped p o os xs temps ds plain s x e t =
+    let h : ValueIs p x (first_value s.stack) × ValuesAre p (reverse xs) (rest_of s.stack) = top_value p x (reverse xs) s.stack (subst (λ (zs : List Operand). ValuesAre p zs s.stack) (rev_push xs os x e) t.stack) in (
+      h.0,
+      record {
+        first = t.first;
+        lines = t.lines;
+        stack = h.1;
+        temps_are = t.temps_are;
+        declared_are = t.declared_are;
+        plain_is = t.plain_is;
+      },
+    )
+
+-- none is left
+pub parts_empty : (p : Pool) (o : Opened) (os xs : List Operand) (temps : ℕ) (ds : List Bool) (plain : Bool) (s : State) (x : Operand)
+    → os ≡ [] → xs ≡ [] → x.e ≡ record { 0 = 0 } → x.known ≡ no_value.known → PartsTell p o os temps ds plain s → ValueIs p x (last_value s) × PartsTell p o xs temps ds plain (popped s)
+parts_empty p o os xs temps ds plain s x e f i k t =
+    let h : (first_value s.stack ≡ no_value) × ValuesAre p [] (rest_of s.stack) = no_top p s.stack (subst (λ (zs : List Operand). ValuesAre p (reverse zs) s.stack) e t.stack) in (
+      subst (λ (v : Value). ValueIs p x v) (sym h.0) (record { stands = subst (λ (a : ExprId). Stands p a no_value.tree) (sym i) t.first; known = k }),
+      record {
+        first = t.first;
+        lines = t.lines;
+        stack = subst (λ (zs : List Operand). ValuesAre p (reverse zs) (rest_of s.stack)) (sym f) h.1;
+        temps_are = t.temps_are;
+        declared_are = t.declared_are;
+        plain_is = t.plain_is;
+      },
+    )
+
+some_is : {A : Type 0} {x y : A} → Some x ≡ Some y → x ≡ y
+some_is e = cc
+
+none_some : {A : Type 0} {x : A} → None ≡ Some x → ⊥
+none_some e = absurd (cc)
+
+last_split : {A : Type 0} (xs : List A) (n : ℕ) (x : A) → slice_get xs n ≡ Some x → suc n ≡ length xs → (ys : List A) × (xs ≡ ys ++ x ∷ [])
+last_split [] n x h e = absurd (none_some h)
+last_split (y ∷ ys) zero x h e =
+    let z : ys ≡ [] = nil_from_length ys (omega (arith, e)) in
+    let i : y ≡ x = some_is h in
+    ([], ap₂ (λ a b. a ∷ b) i z)
+last_split (y ∷ ys) (suc n) x h e = let r = last_split ys n x h (omega (arith, e)) in (y ∷ r.0, ap (λ k. y ∷ k) r.1)
+
+none_last : {A : Type 0} (xs : List A) → slice_get xs (length xs - 1) ≡ None → xs ≡ []
+none_last [] h = refl
+none_last (y ∷ ys) h =
+    let l : length (y ∷ ys) - 1 < length (y ∷ ys) = omega arith in
+    absurd (none_some (sym h ∙ slice_get-get_or (y ∷ ys) (length (y ∷ ys) - 1) y l))
+
+values_length : {p : Pool} {os : List Operand} {vs : List Value} → ValuesAre p os vs → length os ≡ length vs
+values_length no_values = refl
+values_length (more_values h t) = ap suc (values_length t)
+
+pub if_true : {A : Type 0} (b : Bool) (x y : A) → b ≡ true → x ≡ (if b then x else y)
+if_true true x y e = refl
+if_true false x y e = absurd (true≢false (sym e))
+
+pub if_false : {A : Type 0} (b : Bool) (x y : A) → b ≡ false → y ≡ (if b then x else y)
+if_false true x y e = absurd (true≢false e)
+if_false false x y e = refl
+
+module _ (p : Pool) (o : Opened) (os : List Operand) (temps : ℕ) (ds : List Bool) (plain : Bool) (s : State) where
+  pub parts_same : (s' : State) → s ≡ s' → PartsTell p o os temps ds plain s → PartsTell p o os temps ds plain s'
+  parts_same s' e t = subst (λ (z : State). PartsTell p o os temps ds plain z) e t
+
+  pub parts_depth : PartsTell p o os temps ds plain s → length os ≡ length s.stack
+  parts_depth t = sym (length-reverse os) ∙ values_length t.stack
+
+  -- the last value
+  pub parts_last : (x : Operand) → slice_get os (length os - 1) ≡ Some x → PartsTell p o os temps ds plain s → ValueIs p x (last_value s)
+  parts_last x h t =
+      let w : length os - 1 < length os = slice_get_within os (length os - 1) x h in
+      let r = last_split os (length os - 1) x h (omega (arith, w)) in
+      (parts_popped p o os r.0 temps ds plain s x r.1 t).0
+
+  pub parts_none : (x : Operand) → slice_get os (length os - 1) ≡ None → x.e ≡ record { 0 = 0 } → x.known ≡ no_value.known → PartsTell p o os temps ds plain s → ValueIs p x (last_value s)
+  parts_none x h i k t = (parts_empty p o os os temps ds plain s x (none_last os h) (none_last os h) i k t).0
+
+  -- what is noted of a place
+  pub parts_declared : (ds' : List Bool) (place : ℕ) (b : Bool) → ds' ≡ marked place b ds → PartsTell p o os temps ds plain s → PartsTell p o os temps ds' plain (with_declared place b s)
+  parts_declared ds' place b e t = record {
+    first = t.first;
+    lines = t.lines;
+    stack = t.stack;
+    temps_are = t.temps_are;
+    declared_are = e ∙ ap (marked place b) t.declared_are;
+    plain_is = t.plain_is;
+  }
+
+  -- one temporary more
+  pub parts_counted : (temps' k : ℕ) → temps' ≡ (if nat_le temps k then min (k + 1) 4294967295 else temps) → PartsTell p o os temps ds plain s → PartsTell p o os temps' ds plain (with_temp k s)
+  parts_counted temps' k e t = record {
+    first = t.first;
+    lines = t.lines;
+    stack = t.stack;
+    temps_are = e ∙ ap (λ (n : ℕ). if nat_le n k then min (k + 1) 4294967295 else n) t.temps_are;
+    declared_are = t.declared_are;
+    plain_is = t.plain_is;
+  }
+
+-- ---- statements
+
+grows_by : (p q : Pool) → (q.failed ≡ false → p.failed ≡ false) → Holds p.nodes.items q.nodes.items → Holds p.lists.items q.lists.items → Holds p.bytes.items q.bytes.items → Holds p.stmts.items q.stmts.items → Holds p.cases.items q.cases.items → Holds p.names.items q.names.items → Holds p.items.items q.items.items → Grows p q
+unfolding Later
+grows_by p q s a b c d e f h end g = record {
+  sound = s g.sound;
+  nodes = λ i x o. g.nodes i x (a i x o);
+  lists = λ i x o. g.lists i x (b i x o);
+  bytes = λ i x o. g.bytes i x (c i x o);
+  stmts = λ i x o. g.stmts i x (d i x o);
+  cases = λ i x o. g.cases i x (e i x o);
+  names = λ i x o. g.names i x (f i x o);
+  items = λ i x o. g.items i x (h i x o);
+}
+
+-- the same tables
+pub same_tables : (p q : Pool) → q.failed ≡ p.failed → q.nodes.items ≡ p.nodes.items → q.lists.items ≡ p.lists.items → q.bytes.items ≡ p.bytes.items → q.stmts.items ≡ p.stmts.items → q.cases.items ≡ p.cases.items → q.names.items ≡ p.names.items → q.items.items ≡ p.items.items → Grows p q
+same_tables p q s a b c d e f h =
+    grows_by p q (λ l. sym s ∙ l) (held a) (held b) (held c) (held d) (held e) (held f) (held h)
+  where
+    held : {A : Type 0} {xs ys : List A} → ys ≡ xs → Holds xs ys
+    held e i x h = rw e h
+
+pub last_dropped : {A : Type 0} (xs ys : List A) (x : A) → ys ≡ xs ++ x ∷ [] → reverse xs ≡ rest_of (reverse ys)
+last_dropped xs ys x e = sym (ap rest_of (rev_push xs ys x e))
+
+pub last_declares : (xs ys : List Stmt) (x : Stmt) → ys ≡ xs ++ x ∷ [] → is_declaration x ≡ first_declares (reverse ys)
+last_declares xs ys x e = sym (ap first_declares (rev_push xs ys x e))
+
+pub none_dropped : {A : Type 0} (xs ys : List A) → ys ≡ [] → xs ≡ [] → reverse xs ≡ rest_of (reverse ys)
+none_dropped xs ys e f = rw (e, f) refl
+
+pub none_declares : (ys : List Stmt) → ys ≡ [] → false ≡ first_declares (reverse ys)
+none_declares ys e = rw e refl
+
+not_declaration : (x : Stmt) → sets_name x ≡ false → is_declaration x ≡ false
+not_declaration (line.Declare x a) e = absurd (true≢false e)
+not_declaration (line.Assign x a) e = absurd (true≢false e)
+not_declaration _ e = refl
+
+dropped_lines : {p : Pool} {xs : List Stmt} {ls : List Line} → LinesAre p xs ls → LinesAre p (rest_of xs) (rest_of ls) × (first_declares xs ≡ declares_first ls)
+dropped_lines no_line = (no_line, refl)
+dropped_lines (more_lines (declared a) t) = (t, refl)
+dropped_lines (more_lines (assigned a) t) = (t, refl)
+dropped_lines (more_lines {x = x} (said e s) t) = (t, not_declaration x e)
+
+-- one statement less
+pub parts_dropped : (p q : Pool) (os : List Operand) (temps : ℕ) (ds : List Bool) (plain : Bool) (s : State) (r : Bool)
+    → DropsLine p q r → q.failed ≡ false → PartsTell p (opened p) os temps ds plain s → PartsTell q (opened q) os temps ds plain (dropped_line s) × (r ≡ declares_first s.lines)
+parts_dropped p q os temps ds plain s r d l t =
+    let g : Later p q = from_here p q d.0.0 l in
+    let h : LinesAre p (rest_of (reverse (opened p).lines)) (rest_of s.lines) × (first_declares (reverse (opened p).lines) ≡ declares_first s.lines) = dropped_lines t.lines in (
+      record {
+        first = stands_later g t.first;
+        lines = subst (λ (xs : List Stmt). LinesAre q xs (rest_of s.lines)) (sym d.1) (lines_later g h.0);
+        stack = values_later g t.stack;
+        temps_are = t.temps_are;
+        declared_are = t.declared_are;
+        plain_is = t.plain_is;
+      },
+      d.2 ∙ h.1,
+    )
+
+assigned_line : (p : Pool) (x : Name) (a : ExprId) (l : Line) → LineIs p (line.Assign x a) l → (e : Expr) × Stands p a e × (l ≡ assigns (word_of x) e)
+assigned_line p x a _ (assigned {e = e} h) = (e, h, refl)
+assigned_line p x a _ (said e s) = absurd (true≢false e)
+
+declared_line : (p : Pool) (x : Name) (a : ExprId) (l : Line) → LineIs p (line.Declare x a) l → (e : Expr) × Stands p a e × (l ≡ declares (word_of x) e)
+declared_line p x a _ (declared {e = e} h) = (e, h, refl)
+declared_line p x a _ (said e s) = absurd (true≢false e)
+
+-- what a statement sets the temporary of a place to
+pub assigned_here : (p : Pool) (x : Name) (a : ExprId) (place : ℕ) (l : Line) (ls : List Line) → LineIs p (line.Assign x a) l → is_temp (word_of x) place ≡ true → MayStand p (Some a) (set_by place (l ∷ ls))
+assigned_here p x a place l ls h e =
+    let r : (e : Expr) × Stands p a e × (l ≡ assigns (word_of x) e) = assigned_line p x a l h in
+    subst (λ (k : Line). MayStand p (Some a) (set_by place (k ∷ ls))) (sym r.2) (subst (λ (z : Option Expr). MayStand p (Some a) z) (if_true (is_temp (word_of x) place) (Some r.0) None e) (stands_some r.1))
+
+pub assigned_elsewhere : (p : Pool) (x : Name) (a : ExprId) (place : ℕ) (l : Line) (ls : List Line) → LineIs p (line.Assign x a) l → is_temp (word_of x) place ≡ false → MayStand p None (set_by place (l ∷ ls))
+assigned_elsewhere p x a place l ls h e =
+    let r : (e : Expr) × Stands p a e × (l ≡ assigns (word_of x) e) = assigned_line p x a l h in
+    subst (λ (k : Line). MayStand p None (set_by place (k ∷ ls))) (sym r.2) (subst (λ (z : Option Expr). MayStand p None z) (if_false (is_temp (word_of x) place) (Some r.0) None e) stands_none)
+
+pub declared_here : (p : Pool) (x : Name) (a : ExprId) (place : ℕ) (l : Line) (ls : List Line) → LineIs p (line.Declare x a) l → is_temp (word_of x) place ≡ true → MayStand p (Some a) (set_by place (l ∷ ls))
+declared_here p x a place l ls h e =
+    let r : (e : Expr) × Stands p a e × (l ≡ declares (word_of x) e) = declared_line p x a l h in
+    subst (λ (k : Line). MayStand p (Some a) (set_by place (k ∷ ls))) (sym r.2) (subst (λ (z : Option Expr). MayStand p (Some a) z) (if_true (is_temp (word_of x) place) (Some r.0) None e) (stands_some r.1))
+
+pub declared_elsewhere : (p : Pool) (x : Name) (a : ExprId) (place : ℕ) (l : Line) (ls : List Line) → LineIs p (line.Declare x a) l → is_temp (word_of x) place ≡ false → MayStand p None (set_by place (l ∷ ls))
+declared_elsewhere p x a place l ls h e =
+    let r : (e : Expr) × Stands p a e × (l ≡ declares (word_of x) e) = declared_line p x a l h in
+    subst (λ (k : Line). MayStand p None (set_by place (k ∷ ls))) (sym r.2) (subst (λ (z : Option Expr). MayStand p None z) (if_false (is_temp (word_of x) place) (Some r.0) None e) stands_none)
+
+-- another statement sets none
+pub sets_nothing : (p : Pool) (x : Stmt) (place : ℕ) (l : Line) (ls : List Line) → LineIs p x l → sets_name x ≡ false → MayStand p None (set_by place (l ∷ ls))
+sets_nothing p _ place _ ls (declared h) e = absurd (true≢false e)
+sets_nothing p _ place _ ls (assigned h) e = absurd (true≢false e)
+sets_nothing p x place _ ls (said f s) e = stands_none
+
+first_line : (p : Pool) (x : Stmt) (xs : List Stmt) (ls : List Line) → LinesAre p (x ∷ xs) ls → (l : Line) × (ks : List Line) × (ls ≡ l ∷ ks) × LineIs p x l
+first_line p x xs _ (more_lines {l = l} {ls = ls} h t) = (l, ls, refl, h)
+
+pub last_line : (p : Pool) (xs : List Stmt) (x : Stmt) (ls : List Line) → slice_get xs (length xs - 1) ≡ Some x → LinesAre p (reverse xs) ls → (l : Line) × (ks : List Line) × (ls ≡ l ∷ ks) × LineIs p x l
+last_line p xs x ls h t =
+    let w : length xs - 1 < length xs = slice_get_within xs (length xs - 1) x h in
+    let r = last_split xs (length xs - 1) x h (omega (arith, w)) in
+    first_line p x (reverse r.0) ls (subst (λ (zs : List Stmt). LinesAre p zs ls) (rev_push r.0 xs x r.1) t)
+
+no_lines : (p : Pool) (ls : List Line) → LinesAre p [] ls → ls ≡ []
+no_lines p _ no_line = refl
+
+pub no_last_line : (p : Pool) (xs : List Stmt) (ls : List Line) → slice_get xs (length xs - 1) ≡ None → LinesAre p (reverse xs) ls → ls ≡ []
+no_last_line p xs ls h t = no_lines p ls (subst (λ (zs : List Stmt). LinesAre p (reverse zs) ls) (none_last xs h) t)
+
+-- ---- answers that may be none
+
+may_some : (p : Pool) (a : ExprId) (z : Option Expr) → MayStand p (Some a) z → (t : Expr) × (z ≡ Some t) × Stands p a t
+may_some p a _ (stands_some {t = t} h) = (t, refl, h)
+
+may_none : (p : Pool) (z : Option Expr) → MayStand p None z → z ≡ None
+may_none p _ stands_none = refl
+
+pub found : (p : Pool) (r : Option ExprId) (a : ExprId) (z : Option Expr) → MayStand p r z → r ≡ Some a → (t : Expr) × (z ≡ Some t) × Stands p a t
+found p r a z h e = may_some p a z (subst (λ (k : Option ExprId). MayStand p k z) e h)
+
+pub not_found : (p : Pool) (r : Option ExprId) (z : Option Expr) → MayStand p r z → r ≡ None → z ≡ None
+not_found p r z h e = may_none p z (subst (λ (k : Option ExprId). MayStand p k z) e h)
+
+pub operation_shown : {p : Pool} {x : Node} {t : Expr} → Shows p x t → does_operation x ≡ is_operation t
+operation_shown rule.number = refl
+operation_shown (rule.string h) = refl
+operation_shown rule.boolean = refl
+operation_shown rule.null = refl
+operation_shown rule.name = refl
+operation_shown (rule.unary a) = refl
+operation_shown (rule.binary a b) = refl
+operation_shown (rule.both a b) = refl
+operation_shown (rule.either a b) = refl
+operation_shown (rule.choice a b c) = refl
+operation_shown (rule.call a l) = refl
+operation_shown (rule.index a b) = refl
+operation_shown (rule.length_of a) = refl
+operation_shown (rule.pop a) = refl
+operation_shown (rule.char_code_at a b) = refl
+operation_shown (rule.substring a b c) = refl
+operation_shown (rule.array l) = refl
+operation_shown rule.dictionary = refl
+operation_shown (rule.decimal_of a) = refl
+operation_shown (rule.from_char_code a) = refl
+
+pub other_known : (k : Known) (t : Expr) (s : State) → (k ≡ known.Nothing → ⊥) → pushed_known k t s ≡ pushed_operand k t s
+other_known known.Nothing t s n = absurd (n refl)
+other_known _ t s n = refl
+
+pub not_setting : (x : Stmt) → ((n : Name) (a : ExprId) → x ≡ line.Declare n a → ⊥) → ((n : Name) (a : ExprId) → x ≡ line.Assign n a → ⊥) → sets_name x ≡ false
+not_setting (line.Declare n a) d e = absurd (d n a refl)
+not_setting (line.Assign n a) d e = absurd (e n a refl)
+not_setting _ d e = refl

@@ -1,0 +1,110 @@
+-- A body tells a state: what its tables hold stands for the state's trees, as long as memory lasts.
+use Rattle.std.specs.Prelude.{◌≡◌, ℕ, List, [], ◌∷◌, reverse, Bool, true, false, Option, Some, None}
+use Rattle.js_tree.specs.Script as script
+use Rattle.js_tree.specs.Script.{Expr}
+use Rattle.js_pool.specs.Tree as tree
+use Rattle.js_pool.specs.Stands.{Stands, Grows, Opened, opened}
+use Rattle.js_pool.specs.Says.{Says, Opens, with_lines}
+use Rattle.js_pool.specs.declared.name.Name.{Name}
+use Rattle.js_pool.specs.declared.name.Name.TheVariants as name
+use Rattle.js_pool.specs.declared.node.ExprId.{ExprId}
+use Rattle.js_pool.specs.declared.node.Node.{Node}
+use Rattle.js_pool.specs.declared.node.Node.TheVariants as node
+use Rattle.js_pool.specs.declared.node.Stmt.{Stmt}
+use Rattle.js_pool.specs.declared.node.Stmt.TheVariants as line
+use Rattle.js_pool.specs.declared.pool.Pool.{Pool}
+use Rattle.js_body.specs.declared.body.Body.{Body}
+use Rattle.js_body.specs.declared.body.Operand.{Operand}
+use Rattle.js_body.specs.State.{State, Value, Word, alone, numbered, Line, declares, assigns, says, rest_of}
+
+abbrev pub word_of : Name → Word
+word_of (name.Word w) = alone w.now
+word_of (name.Numbered w n) = numbered w.now n
+
+-- whether a statement sets a name
+abbrev pub sets_name : Stmt → Bool
+sets_name (line.Declare x a) = true
+sets_name (line.Assign x a) = true
+sets_name _ = false
+
+pub data LineIs (p : Pool) : Stmt → Line → Type 0 where
+  declared : {x : Name} {a : ExprId} {e : Expr} → Stands p a e → LineIs p (line.Declare x a) (declares (word_of x) e)
+  assigned : {x : Name} {a : ExprId} {e : Expr} → Stands p a e → LineIs p (line.Assign x a) (assigns (word_of x) e)
+  said : {x : Stmt} {s : script.Stmt} → sets_name x ≡ false → Says p x s → LineIs p x (says s)
+
+pub data LinesAre (p : Pool) : List Stmt → List Line → Type 0 where
+  no_line : LinesAre p [] []
+  more_lines : {x : Stmt} {xs : List Stmt} {l : Line} {ls : List Line} → LineIs p x l → LinesAre p xs ls → LinesAre p (x ∷ xs) (l ∷ ls)
+
+pub record ValueIs (p : Pool) (o : Operand) (v : Value) : Type 0 where
+  pub stands : Stands p o.e v.tree
+  pub known : o.known ≡ v.known
+
+pub data ValuesAre (p : Pool) : List Operand → List Value → Type 0 where
+  no_values : ValuesAre p [] []
+  more_values : {o : Operand} {os : List Operand} {v : Value} {vs : List Value} → ValueIs p o v → ValuesAre p os vs → ValuesAre p (o ∷ os) (v ∷ vs)
+
+-- what an answer that may be none stands for
+pub data MayStand (p : Pool) : Option ExprId → Option Expr → Type 0 where
+  stands_none : MayStand p None None
+  stands_some : {a : ExprId} {t : Expr} → Stands p a t → MayStand p (Some a) (Some t)
+
+-- the parts of a body tell a state; `null` is the first expression of the tables
+pub record PartsTell (p : Pool) (o : Opened) (os : List Operand) (temps : ℕ) (ds : List Bool) (plain : Bool) (s : State) : Type 0 where
+  pub first : Stands p (record { 0 = 0 }) tree.null
+  pub lines : LinesAre p (reverse o.lines) s.lines
+  pub stack : ValuesAre p (reverse os) s.stack
+  pub temps_are : temps ≡ s.temps
+  pub declared_are : ds ≡ s.declared
+  pub plain_is : plain ≡ s.plain
+
+abbrev pub Tells : Body → State → Type 0
+Tells b s = PartsTell b.pool (opened b.pool) b.stack.items b.temps b.declared.items b.plain s
+
+-- memory hasn't run out
+abbrev pub Lasts : Body → Type 0
+Lasts b = b.pool.failed ≡ false
+
+-- the tables have only grown, and a body that told a state tells what this makes of it
+abbrev pub Runs : Body → Body → (State → State) → Type 0
+Runs p q f = Grows p.pool q.pool × (Lasts q → (s : State) → Tells p s → Tells q (f s))
+
+-- likewise, by the tree of an expression
+abbrev pub Runs1 : Body → Body → ExprId → (Expr → State → State) → Type 0
+Runs1 p q a f = Grows p.pool q.pool × (Lasts q → (t : Expr) → Stands p.pool a t → (s : State) → Tells p s → Tells q (f t s))
+
+-- likewise, and gives an expression
+abbrev pub Gives : Body → Body → ExprId → (State → Expr) → (State → State) → Type 0
+Gives p q r g f = Grows p.pool q.pool × (Lasts q → (s : State) → Tells p s → Stands q.pool r (g s) × Tells q (f s))
+
+abbrev pub Gives1 : Body → Body → ExprId → ExprId → (Expr → State → Expr) → (Expr → State → State) → Type 0
+Gives1 p q a r g f = Grows p.pool q.pool × (Lasts q → (t : Expr) → Stands p.pool a t → (s : State) → Tells p s → Stands q.pool r (g t s) × Tells q (f t s))
+
+-- likewise, and gives a value
+abbrev pub GivesValue : Body → Body → Operand → (State → Value) → (State → State) → Type 0
+GivesValue p q r g f = Grows p.pool q.pool × (Lasts q → (s : State) → Tells p s → ValueIs q.pool r (g s) × Tells q (f s))
+
+-- one more value, which is this operand
+abbrev pub PutsValue : Body → Body → Operand → Type 0
+PutsValue p q o = Grows p.pool q.pool × (Lasts q → (v : Value) → ValueIs p.pool o v → (s : State) → Tells p s → Tells q (record s { stack = v ∷ s.stack }))
+
+abbrev pub is_declaration : Stmt → Bool
+is_declaration (line.Declare x a) = true
+is_declaration _ = false
+
+abbrev pub first_declares : List Stmt → Bool
+first_declares [] = false
+first_declares (x ∷ xs) = is_declaration x
+
+-- the last statement goes
+abbrev pub DropsLine : Pool → Pool → Bool → Type 0
+DropsLine p q r =
+    Opens p q (with_lines (opened p) (opened q).lines) ×
+    (reverse (opened q).lines ≡ rest_of (reverse (opened p).lines)) × (r ≡ first_declares (reverse (opened p).lines))
+
+abbrev pub does_operation : Node → Bool
+does_operation (node.Unary op a) = true
+does_operation (node.Binary op a b) = true
+does_operation (node.Index a b) = true
+does_operation (node.Length a) = true
+does_operation _ = false
