@@ -7,15 +7,18 @@ import re
 import sys
 
 from whole_forms import WORDS, Forms
+from whole_more import KIT, KIT_NAMES, More
 
 BITS = {'int': 32, 'uint': 32, 'uintptr': 32, 'int8': 8, 'int16': 16, 'int32': 32, 'int64': 64,
         'uint8': 8, 'uint16': 16, 'uint32': 32, 'uint64': 64}
 INTS = list(BITS)
 
 
-class Maker(Forms):
-    def __init__(self, seed):
+class Maker(Forms, More):
+    def __init__(self, seed, small=False):
         self.r = random.Random(seed)
+        self.seed, self.small = seed, small
+        self.kit = False
         self.count = 0
         self.structs = []
         self.nameds = []
@@ -605,7 +608,7 @@ class Maker(Forms):
         rs = [self.type() for _ in range(self.r.randint(1, 2))]
         env = ([] if pure else self.globals) + [(f'p{i}_{j}', t) for j, t in enumerate(ps)]
         name = f'{"f" if pure else "h"}{i}'
-        body = self.stmts(env, 1, rs, 1, [])
+        body = self.stmt(env, 1, rs, 1, [], '\t') if self.small else self.stmts(env, 1, rs, 1, [])
         head = ', '.join(f'p{i}_{j} {self.name(t)}' for j, t in enumerate(ps))
         self.pure = False
         last = ", ".join(self.expr(t, env, 2) for t in rs)
@@ -628,7 +631,7 @@ class Maker(Forms):
         out = [f'func (p0 S{k}) area(p1 int) int {{', f'\treturn {self.expr("int", env, 2)}', '}', '']
         t, u = self.scalar(), self.scalar()
         env = [('p0', ('pointer', ('struct', k))), ('p1', u)]
-        out += [f'func (p0 *S{k}) set{k}(p1 {u}) {t} {{'] + self.stmts(env, 1, [t], 1, []) + [f'\treturn {self.expr(t, env, 2)}', '}', '']
+        out += [f'func (p0 *S{k}) set{k}(p1 {u}) {t} {{'] + (self.assignment(env, '\t') if self.small else self.stmts(env, 1, [t], 1, [])) + [f'\treturn {self.expr(t, env, 2)}', '}', '']
         f, v = self.structs[k][0]
         out += [f'func (p0 *S{k}) mark(p1 int) {{', f'\tp0.{f} = p0.{f}*3 + {v}(p1)', f'\tprintln("mark", p0.{f})', '}', '']
         self.methods.append((t, u))
@@ -687,28 +690,41 @@ class Maker(Forms):
         self.libs = {'base': '\n'.join(base), 'lib': '\n'.join(lib)}
         return use
 
+    # One special form, the next with each seed, and a statement or two around it.
+    def small_body(self):
+        env = list(self.globals)
+        kinds = self.kinds()
+        forms = [kinds[self.seed // 4 % len(kinds)], self.r.choice(kinds)]
+        out = [line for _ in range(self.r.randint(0, 2)) for line in self.stmt(env, 1, None, 1, [], '\t')]
+        for form in forms[:self.r.randint(1, 2)]:
+            out += ['\t' + line for line in form(env)]
+        return out + self.shown(env, '\t')
+
     def program(self):
         self.libs = {}
+        many = lambda most: self.r.randint(0, most) if self.small else self.r.randint(1, 3)
         out = [f'func c_{t}(x {t}) {t} {{ return x }}' for t in INTS + ['bool']] + ['']
         out += ['func clip(s string) string { if len(s) > 40 { return s[:40] }; return s }', '', 'type Shape interface { area(x int) int }', '']
-        for k in range(self.r.randint(1, 3)):
+        for k in range(1 + many(1) if self.small else many(3)):
             out += self.struct(k)
         for k in range(self.r.randint(0, 2)):
             out += self.named(k)
         for k in range(len(self.structs)):
             out += self.struct_methods(k)
-        for i in range(self.r.randint(1, 3)):
+        for i in range(many(1)):
             out += self.function(i, True)
-        for _ in range(self.r.randint(0, 2)):
+        for _ in range(self.r.randint(0, 1 if self.small else 2)):
             t, x = self.type(), self.fresh('g')
             out += [f'var {x} {self.name(t)} = {self.expr(t, [], 2)}', '']
             self.globals.append((x, t))
-        for i in range(self.r.randint(0, 2)):
+        for i in range(0 if self.small else self.r.randint(0, 2)):
             out += self.function(i, False)
-        ordered = self.ordered() if self.r.random() < .3 else []
-        packed = self.packages() if self.r.random() < .2 else []
-        out += ['func main() {'] + (['\tpacked()'] if packed else []) + self.stmts(self.globals, 2, None, 1, []) + self.stmts(self.globals, 2, None, 1, []) + self.stmts(self.globals, 2, None, 1, [])
-        out += ['\t' + line for line in self.shows(self.globals, [x for x, _ in self.globals])] + ['\tprintln("end")', '}', '']
+        ordered = self.ordered() if self.r.random() < (.03 if self.small else .3) else []
+        packed = self.packages() if self.r.random() < (.02 if self.small else .2) else []
+        body = self.small_body() if self.small else [line for _ in range(3) for line in self.stmts(self.globals, 2, None, 1, [])]
+        out += ['func main() {'] + (['\tpacked()'] if packed else []) + body
+        out += ['\t' + line for line in self.shows(self.globals, [x for x, _ in self.globals])] + ['\tprintln("end")', '\t' + self.ending(), '}', '']
+        out += KIT.split('\n') if self.kit else []
         for n, (f, body) in sorted(self.shown_types.items()):
             out += [f'func {f}(x {n}) {{'] + ['\t' + line for line in body] + ['}', '']
         files = {'main.go': self.file(out)}
@@ -733,6 +749,17 @@ def write(path, text):
         f.write(text)
 
 
+# Names of the package, with the program's number, so that many programs are one package for the Go toolchain.
+NAMES = re.compile(r'\b(' + '|'.join(KIT_NAMES) + r'|c_\w+|clip|Shape|(?:new_)?S\d+|N\d+|[fhg]\d+|show\d+)\b')
+
+
+def numbered(text, n):
+    told = lambda mark: f'var _ = func() int {{ println("{mark}{n}"); return 0 }}()\n'
+    head, body = re.match(r'(package \w+\n\n(?:import "\w+"\n)*)(.*)', text, re.S).groups()
+    body = NAMES.sub(lambda name: f'{name.group()}_p{n}', body).replace('func main()', f'func Main{n}()', 1)
+    return head + '\n' + told('>>') + body + '\n' + told('<<')
+
+
 # What each package of the Go toolchain's module tells before and after its initialisation.
 def marked(folder, package, n):
     write(f'{folder}/0.go', f'package {package}\n\nvar _ = func() int {{ println(">>{n}"); return 0 }}()\n')
@@ -740,9 +767,15 @@ def marked(folder, package, n):
 
 
 def main():
-    folder, seed, count = sys.argv[1], int(sys.argv[2]), int(sys.argv[3])
+    folder, seed, count, small = sys.argv[1], int(sys.argv[2]), int(sys.argv[3]), sys.argv[4:] == ['small']
     for n in range(seed, seed + count):
-        files, libs = Maker(n).program()
+        files, libs = Maker(n, small).program()
+        if small and len(files) == 1:
+            write(f'{folder}/p{n}/main.go', files['main.go'])
+            text = numbered(files['main.go'], n)
+            write(f'{folder}/all/p{n}.go', text)
+            write(f'{folder}/go/b{n // 50}/p{n}.go', text.replace('package main', f'package b{n // 50}', 1))
+            continue
         within = lambda text: re.sub(r'import "(base|lib)"', f'import "whole/p{n}/\\1"', text)
         for name, text in files.items():
             write(f'{folder}/p{n}/{name}', text)

@@ -1,11 +1,12 @@
-"""whole_compare.py GOPHERJS FOLDER: runs each program of FOLDER, as whole.py wrote it, by the Go toolchain, by
-`gopherjs run` and by node from the script that `gopherjs build` stores, and prints where they differ."""
+"""whole_compare.py GOPHERJS FOLDER: runs each program of FOLDER, as whole.py wrote it, by the Go toolchain, and the
+script that `gopherjs build` stores by node and by `gopherjs exec`, and prints where they differ."""
 import os
 import re
+import shutil
 import subprocess
 import sys
 
-SECONDS = 60
+SECONDS = 900
 
 
 def run(words, **more):
@@ -42,24 +43,34 @@ class Toolchain:
             if not open_one:
                 break
             self.known[open_one] = ended(code, self.begun.pop(open_one))
+            self.drop(open_one)
             names.remove(open_one)
 
-    # Builds what the toolchain takes, and answers its names.
+    # Builds what the toolchain takes, and answers its names. A small program is a file among others of one package.
     def build(self, names):
         env = dict(os.environ, GOARCH='386', GOFLAGS='-mod=mod', GO111MODULE='on')
         while True:
+            place = {x: (x, 'Main') if os.path.isdir(f'{self.folder}/{x}') else (f'b{int(x[1:]) // 50}', 'Main' + x[1:]) for x in names}
             with open(f'{self.folder}/main.go', 'w') as f:
-                f.write('package main\n\nimport (\n\t"os"\n' + ''.join(f'\t"whole/{x}"\n' for x in names) + ')\n\nfunc main() {\n\tprintln("==")\n\tswitch os.Args[1] {\n')
-                f.write(''.join(f'\tcase "{x}":\n\t\t{x}.Main()\n' for x in names) + '\t}\n}\n')
-            done = subprocess.run(['go', 'build', '-p', '1', '-gcflags=-N', '-o', self.binary, '.'], cwd=self.folder, env=env, stderr=subprocess.PIPE)
+                f.write('package main\n\nimport (\n\t"os"\n' + ''.join(f'\t"whole/{x}"\n' for x in sorted({x for x, _ in place.values()})) + ')\n\nfunc main() {\n\tprintln("==")\n\tswitch os.Args[1] {\n')
+                f.write(''.join(f'\tcase "{x}":\n\t\t{place[x][0]}.{place[x][1]}()\n' for x in names) + '\t}\n}\n')
+            done = subprocess.run(['go', 'build', '-p', '1', '-gcflags=-N -e', '-o', self.binary, '.'], cwd=self.folder, env=env, stderr=subprocess.PIPE)
             if done.returncode == 0:
                 return names
-            wrong = set(re.findall(r'^# whole/(p\d+)', done.stderr.decode(), re.M))
-            print(f'go refuses {" ".join(sorted(wrong))}: {done.stderr.decode()[:400]}')
-            if not wrong & set(names):
+            told = done.stderr.decode()
+            wrong = set(re.findall(r'^(?:# whole/|b\d+/)(p\d+)\b', told, re.M)) & set(names)
+            print(f'go refuses {" ".join(sorted(wrong))}: {told[:1000]}', flush=True)
+            if not wrong:
                 sys.exit(2)
-            self.known.update((x, ('time', b'', b'')) for x in wrong)
+            for x in wrong:
+                self.drop(x)
             names = [x for x in names if x not in wrong]
+
+    def drop(self, name):
+        self.known.setdefault(name, ('time', b'', b''))
+        alone = f'{self.folder}/b{int(name[1:]) // 50}/{name}.go'
+        if os.path.exists(alone):
+            os.remove(alone)
 
     def end(self, name):
         if name not in self.known:
@@ -84,30 +95,71 @@ def beginnings(told):
     return begun, now
 
 
+class Ours:
+    """What we make of the programs: small ones that come to their end by fifties, all others alone."""
+
+    def __init__(self, program, folder):
+        self.program, self.folder, self.wrong, self.built = program, folder, 0, 0
+
+    def told(self, text):
+        self.wrong += 1
+        print(text, flush=True)
+
+    # The runner takes ten times the time of node, so it runs one script of four.
+    def ends(self, where, more=[]):
+        code, _, told = run([self.program, 'build', '-o', f'{where}/out.js'] + more + [where])
+        if code != 0:
+            return [('build', (code, b'', told))]
+        self.built += 1
+        kinds = [('node', ['node', f'{where}/out.js']), ('exec', [self.program, 'exec', f'{where}/out.js'])]
+        return [(kind, ours(*run(words))) for kind, words in kinds[:1 + (self.built % 4 == 1)]]
+
+    def alone(self, name, right):
+        where = f'{self.folder}/{name}'
+        for kind, got in self.ends(where, ['--src', f'{where}/src'] if os.path.isdir(f'{where}/src') else []):
+            if got != right:
+                self.told(f'{name}: {kind}: {difference(right, got)}')
+
+    # Many in one program: what each printed stands between its marks. Where one is wrong, it is tried alone.
+    def together(self, rights):
+        names = list(rights)
+        where = f'{self.folder}/many_{names[0]}'
+        os.makedirs(where, exist_ok=True)
+        for x in names:
+            shutil.copy(f'{self.folder}/all/{x}.go', where)
+        with open(f'{where}/main.go', 'w') as f:
+            f.write('package main\n\nfunc main() {\n' + ''.join(f'\tprintln("=={x[1:]}")\n\tMain{x[1:]}()\n' for x in names) + '}\n')
+        bad = set()
+        for kind, (code, out, _) in self.ends(where):
+            parts = {}
+            for line in out.splitlines(keepends=True):
+                mark = re.fullmatch(rb'(>>|<<|==)(\d+)\n', line)
+                if mark:
+                    now = 'p' + mark.group(2).decode()
+                else:
+                    parts[now] = parts.get(now, b'') + line
+            bad |= {x for x in names if parts.get(x, b'') != rights[x][1]}
+            if code != 0 and not bad:
+                self.told(f'{where}: {kind} ends with {code}')
+        for x in sorted(bad)[:8]:
+            self.alone(x, rights[x])
+        if bad:
+            print(f'{where}: tried alone: {" ".join(sorted(bad))}', flush=True)
+
+
 def main():
     program, folder = os.path.abspath(sys.argv[1]), sys.argv[2]
     names = sorted((d for d in os.listdir(folder) if re.fullmatch(r'p\d+', d)), key=lambda d: int(d[1:]))
-    go = Toolchain(folder, names)
-    wrong, left_out = 0, 0
-    for name in names:
-        where = f'{folder}/{name}'
-        right = go.end(name)
-        if right[0] == 'time':
-            left_out += 1
-            continue
-        more = ['--src', f'{where}/src'] if os.path.isdir(f'{where}/src') else []
-        code, _, told = run([program, 'build', '-o', f'{where}/out.js'] + more + [where])
-        if code != 0:
-            wrong += 1
-            print(f'{name}: build ends with {code}: {told.decode(errors="replace").strip()[:200]}')
-            continue
-        kinds = [('node', ours(*run(['node', f'{where}/out.js']))), ('run', ours(*run([program, 'run'] + more + [where])))]
-        for kind, got in kinds:
-            if got != right:
-                wrong += 1
-                print(f'{name}: {kind}: {difference(right, got)}', flush=True)
-    print(f'{len(names) - left_out} programs, {wrong} differences, {left_out} left out')
-    sys.exit(1 if wrong else 0)
+    go, we = Toolchain(folder, names), Ours(program, folder)
+    rights = {x: go.end(x) for x in names}
+    rights = {x: right for x, right in rights.items() if right[0] != 'time'}
+    many = [x for x, right in rights.items() if right[0] == 0 and os.path.exists(f'{folder}/all/{x}.go')]
+    for i in range(0, len(many), 50):
+        we.together({x: rights[x] for x in many[i:i + 50]})
+    for x in set(rights) - set(many):
+        we.alone(x, rights[x])
+    print(f'{len(rights)} programs, {we.wrong} differences, {len(names) - len(rights)} left out')
+    sys.exit(1 if we.wrong else 0)
 
 
 def difference(right, got):

@@ -6,13 +6,16 @@ WORDS = ['', 'a', 'ab', 'zoo', 'h\\x00i', '\\u00e9t\\u00e9', '\\xff\\xfe', '\\u6
 
 class Forms:
     def form(self, env, p):
+        return [p + line for line in self.r.choice(self.kinds())(env)]
+
+    def kinds(self):
         kinds = [self.aliased, self.copied, self.pointed, self.bound, self.looped, self.swapped, self.texts, self.shadowed,
                  self.local_names, self.deferred, self.kept, self.opened, self.counted, self.sliced, self.nested, self.matched,
                  self.library, self.spread, self.indexed, self.keyed, self.limits, self.anonymous, self.equal, self.wide,
                  self.arrays, self.ranged, self.folded, self.converted, self.embedded, self.stacked, self.left, self.again]
         if self.marked:
             kinds += [self.sent, self.selected, self.piped, self.rounds, self.locked, self.waited] * 2
-        return [p + line for line in self.r.choice(kinds)(env)]
+        return kinds + self.more_forms()
 
     def pick(self, env, test):
         found = [(x, t) for x, t in env if test(t)]
