@@ -286,7 +286,11 @@ fn convert_value(
         refuse_shifts(c, x.node)?;
         return c.unknown(x.place);
     }
+    let faults = c.faults.len();
     settle(c, x.node, t)?;
+    if c.faults.len() != faults {
+        return c.unknown(x.place);
+    }
     Ok(Operand {
         mode: Mode::Value,
         ty: t,
