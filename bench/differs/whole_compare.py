@@ -1,6 +1,8 @@
 """whole_compare.py GOPHERJS FOLDER: runs each program of FOLDER, as whole.py wrote it, by the Go toolchain, and the
-script that `gopherjs build` stores by node and by `gopherjs exec`, and prints where they differ."""
+script that `gopherjs build` stores by node and by `gopherjs exec`, and prints where they differ. What the toolchain
+makes of them is kept in the folder; the word `go` in place of the program asks for no more than that."""
 import os
+import pickle
 import re
 import shutil
 import subprocess
@@ -147,12 +149,25 @@ class Ours:
             print(f'{where}: tried alone: {" ".join(sorted(bad))}', flush=True)
 
 
+# What the Go toolchain makes of each program that it takes; a file keeps it.
+def known(folder, names):
+    path = f'{folder}/rights'
+    if not os.path.exists(path):
+        go = Toolchain(folder, names)
+        rights = {x: go.end(x) for x in names}
+        with open(path, 'wb') as f:
+            pickle.dump({x: right for x, right in rights.items() if right[0] != 'time'}, f)
+    with open(path, 'rb') as f:
+        return pickle.load(f)
+
+
 def main():
     program, folder = os.path.abspath(sys.argv[1]), sys.argv[2]
     names = sorted((d for d in os.listdir(folder) if re.fullmatch(r'p\d+', d)), key=lambda d: int(d[1:]))
-    go, we = Toolchain(folder, names), Ours(program, folder)
-    rights = {x: go.end(x) for x in names}
-    rights = {x: right for x, right in rights.items() if right[0] != 'time'}
+    rights = known(folder, names)
+    if sys.argv[1] == 'go':
+        return
+    we = Ours(program, folder)
     many = [x for x, right in rights.items() if right[0] == 0 and os.path.exists(f'{folder}/all/{x}.go')]
     for i in range(0, len(many), 50):
         we.together({x: rights[x] for x in many[i:i + 50]})
