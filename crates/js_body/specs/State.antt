@@ -343,3 +343,17 @@ slot_set n t s =
 -- the first time: a plain function declares it
 abbrev pub slot_begun : ℕ → Expr → State → State
 slot_begun n t s = if s.around.plain then with_line (declares (var_word n) t) s else slot_set n t s
+
+-- ---- variables: one that is boxed stands in an array of its own
+
+-- the value of a variable
+abbrev pub var_tree : Home → State → Expr
+var_tree h s = if h.boxed then tree.index (slot_tree h.slot s) (tree.number 0) else slot_tree h.slot s
+
+-- what stands in the slot of a fresh variable
+abbrev pub fresh_tree : Bool → Expr → Expr
+fresh_tree boxed t = if boxed then tree.array (tree.list1 t) else t
+
+-- a fresh variable with a value
+abbrev pub bound : Home → Expr → State → State
+bound h t s = slot_begun h.slot (fresh_tree h.boxed t) s
