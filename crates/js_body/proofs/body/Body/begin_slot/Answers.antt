@@ -2,7 +2,7 @@ use Rattle.std.proofs.Common.{◌≡◌, true, false, sym, ap, ◌∙◌}
 use Rattle.js_body.specs.State.{Around, declares, var_word}
 use Rattle.js_body.specs.Tells.{around, declared}
 use Rattle.js_body.specs.Later.{itself, stands_later}
-use Rattle.js_body.proofs.Steps.{if_true, if_false, parts_line, parts_same}
+use Rattle.js_body.specs.StepLaws.{if_true, if_false, parts_line, parts_same}
 use Rattle.js_body.proofs.body.Body.begin_slot.Goals as goal
 
 pub returns-then-self : goal.returns-then-self

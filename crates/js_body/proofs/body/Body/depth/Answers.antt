@@ -1,7 +1,7 @@
 use Rattle.std.proofs.Common.{arith}
 use Rattle.js_pool.specs.Stands.{opened}
 use Rattle.js_body.specs.Tells.{around}
-use Rattle.js_body.proofs.Steps.{parts_depth}
+use Rattle.js_body.specs.StepLaws.{parts_depth}
 use Rattle.js_body.proofs.body.Body.depth.Goals as goal
 
 pub returns : goal.returns

@@ -1,7 +1,8 @@
 use Rattle.std.proofs.Common.{[], ◌∷◌, ◌++◌, false, ap}
 use Rattle.js_body.specs.State.{Around}
 use Rattle.js_body.specs.Tells.{around}
-use Rattle.js_body.proofs.Steps.{fails, no_more, parts_near}
+use Rattle.js_body.specs.StepLaws.{fails, no_more}
+use Rattle.js_body.proofs.Steps.{parts_near}
 use Rattle.js_body.proofs.body.Body.enter_label.Goals as goal
 
 pub returns-in-Ok : goal.returns-in-Ok

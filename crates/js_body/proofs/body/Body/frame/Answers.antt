@@ -1,6 +1,6 @@
 use Rattle.js_body.specs.Tells.{around}
 use Rattle.js_body.specs.Later.{itself}
-use Rattle.js_body.proofs.Steps.{parts_kept}
+use Rattle.js_body.specs.StepLaws.{parts_kept}
 use Rattle.js_body.proofs.body.Body.frame.Goals as goal
 
 pub returns : goal.returns

@@ -4,7 +4,7 @@ use Rattle.js_pool.specs.Tree as tree
 use Rattle.js_pool.specs.Stands.{Stands}
 use Rattle.js_body.specs.Tells.{around}
 use Rattle.js_body.specs.Later.{itself, stands_later}
-use Rattle.js_body.proofs.Steps.{if_true, if_false, parts_kept}
+use Rattle.js_body.specs.StepLaws.{if_true, if_false, parts_kept}
 use Rattle.js_body.proofs.body.Body.fresh_var.Goals as goal
 
 pub returns-then-boxed : goal.returns-then-boxed

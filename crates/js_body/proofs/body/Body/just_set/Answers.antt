@@ -2,7 +2,7 @@ use Rattle.std.proofs.Common.{Option, None, sym, ap, ◌∙◌, subst}
 use Rattle.js_tree.specs.Script.{Expr}
 use Rattle.js_body.specs.State.{Around, set_last}
 use Rattle.js_body.specs.Tells.{around, MayStand, stands_none}
-use Rattle.js_body.proofs.Steps.{if_true, if_false}
+use Rattle.js_body.specs.StepLaws.{if_true, if_false}
 use Rattle.js_body.proofs.body.Body.just_set.Goals as goal
 
 pub returns-then-self : goal.returns-then-self

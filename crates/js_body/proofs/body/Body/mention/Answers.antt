@@ -1,7 +1,8 @@
 use Rattle.std.proofs.Common.{◌≡◌, Bool, true, false, sym, ap, ◌∙◌}
 use Rattle.js_body.specs.State.{has_slot, noted}
 use Rattle.js_body.specs.Tells.{around}
-use Rattle.js_body.proofs.Steps.{if_true, if_false, parts_near}
+use Rattle.js_body.specs.StepLaws.{if_true, if_false}
+use Rattle.js_body.proofs.Steps.{parts_near}
 use Rattle.js_body.proofs.body.Body.mention.Goals as goal
 
 pub returns-then-has_slot : goal.returns-then-has_slot

@@ -1,7 +1,7 @@
 use Rattle.js_body.specs.State.{panic_tree}
 use Rattle.js_body.specs.Later.{itself}
 use Rattle.js_body.specs.Tells.{around}
-use Rattle.js_body.proofs.Steps.{earlier, parts_kept}
+use Rattle.js_body.specs.StepLaws.{earlier, parts_kept}
 use Rattle.js_body.proofs.body.Body.panic.Goals as goal
 
 pub returns : goal.returns

@@ -8,8 +8,8 @@ use Rattle.js_pool.specs.declared.node.Stmt.TheVariants as line
 use Rattle.js_body.specs.State.{says, panic_line, panic_tree, panicked, block_tree}
 use Rattle.js_body.specs.Tells.{around, said}
 use Rattle.js_body.specs.Later.{itself, stands_later, says_in_later}
-use Rattle.js_body.proofs.Blocks.{parts_lines, parts_closed}
-use Rattle.js_body.proofs.Steps.{earlier, from_here, parts_line}
+use Rattle.js_body.specs.BlockLaws.{parts_lines, parts_closed}
+use Rattle.js_body.specs.StepLaws.{earlier, from_here, parts_line}
 use Rattle.js_body.proofs.body.Body.panic_if.Goals as goal
 
 pub returns : goal.returns

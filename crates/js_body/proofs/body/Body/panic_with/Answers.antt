@@ -4,7 +4,7 @@ use Rattle.js_pool.specs.declared.node.Stmt.TheVariants as line
 use Rattle.js_body.specs.State.{panic_line}
 use Rattle.js_body.specs.Tells.{around, said}
 use Rattle.js_body.specs.Later.{itself, stands_later}
-use Rattle.js_body.proofs.Steps.{earlier, from_here, parts_kept, parts_line}
+use Rattle.js_body.specs.StepLaws.{earlier, from_here, parts_kept, parts_line}
 use Rattle.js_body.proofs.body.Body.panic_with.Goals as goal
 
 pub returns : goal.returns

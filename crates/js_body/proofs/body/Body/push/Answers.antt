@@ -3,7 +3,7 @@ use Rattle.js_pool.specs.Stands.{opened}
 use Rattle.js_body.specs.declared.body.Known.TheVariants as known
 use Rattle.js_body.specs.State.{temp_tree, set_temp, pushed_value}
 use Rattle.js_body.specs.Tells.{around, PartsTell}
-use Rattle.js_body.proofs.Steps.{earlier, parts_depth}
+use Rattle.js_body.specs.StepLaws.{earlier, parts_depth}
 use Rattle.js_body.proofs.body.Body.push.Goals as goal
 
 pub returns : goal.returns

@@ -4,7 +4,7 @@ use Rattle.js_pool.specs.Stands.{opened}
 use Rattle.js_pool.specs.declared.node.Stmt.{Stmt}
 use Rattle.js_body.specs.State.{last_value, is_temporary, set_by}
 use Rattle.js_body.specs.Tells.{around, MayStand, stands_none, LinesAre}
-use Rattle.js_body.proofs.Steps.{if_true, if_false, parts_depth}
+use Rattle.js_body.specs.StepLaws.{if_true, if_false, parts_depth}
 use Rattle.js_body.proofs.body.Body.set_last.Goals as goal
 
 pub returns-then-is_temporary : goal.returns-then-is_temporary

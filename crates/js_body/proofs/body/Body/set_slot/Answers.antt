@@ -7,7 +7,7 @@ use Rattle.js_pool.specs.declared.node.Stmt.TheVariants as line
 use Rattle.js_body.specs.State.{Around, assigns, says, var_word, frame_tree, mentioned}
 use Rattle.js_body.specs.Tells.{around, assigned, said}
 use Rattle.js_body.specs.Later.{itself, stands_later}
-use Rattle.js_body.proofs.Steps.{earlier, from_here, if_true, if_false, parts_line, parts_same}
+use Rattle.js_body.specs.StepLaws.{earlier, from_here, if_true, if_false, parts_line, parts_same}
 use Rattle.js_body.proofs.body.Body.set_slot.Goals as goal
 
 pub returns-then-self : goal.returns-then-self

@@ -4,7 +4,7 @@ use Rattle.js_pool.specs.Stands.{Stands, opened}
 use Rattle.js_body.specs.State.{numbered, with_temp, set_name}
 use Rattle.js_body.specs.Tells.{around, PartsTell}
 use Rattle.js_body.specs.Later.{itself, stands_later}
-use Rattle.js_body.proofs.Steps.{earlier, from_here, parts_kept}
+use Rattle.js_body.specs.StepLaws.{earlier, from_here, parts_kept}
 use Rattle.js_body.proofs.body.Body.set_temp.Goals as goal
 
 pub returns : goal.returns

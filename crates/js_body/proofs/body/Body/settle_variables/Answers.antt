@@ -2,7 +2,7 @@ use Rattle.std.proofs.Common.{◌≡◌, ℕ, suc, ◌+◌, arith, subst}
 use Rattle.js_pool.specs.Stands.{opened}
 use Rattle.js_body.specs.State.{settled_upto}
 use Rattle.js_body.specs.Tells.{around, PartsTell}
-use Rattle.js_body.proofs.Steps.{earlier}
+use Rattle.js_body.specs.StepLaws.{earlier}
 use Rattle.js_body.proofs.body.Body.settle_variables.Goals as goal
 
 pub loop-i-preserved : goal.loop-i-preserved

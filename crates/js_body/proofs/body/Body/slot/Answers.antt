@@ -5,7 +5,7 @@ use Rattle.js_pool.specs.Stands.{Stands}
 use Rattle.js_body.specs.State.{Around, word_bytes, var_word, frame_tree, mentioned}
 use Rattle.js_body.specs.Tells.{around}
 use Rattle.js_body.specs.Later.{itself, stands_later}
-use Rattle.js_body.proofs.Steps.{earlier, if_true, if_false, parts_kept, parts_same}
+use Rattle.js_body.specs.StepLaws.{earlier, if_true, if_false, parts_kept, parts_same}
 use Rattle.js_body.proofs.body.Body.slot.Goals as goal
 
 pub returns-then-self : goal.returns-then-self

@@ -4,7 +4,8 @@ use Rattle.js_pool.specs.Stands.{Stands, opened}
 use Rattle.js_body.specs.State.{last_value, popped, just_set, tree_or, taken_by, unset}
 use Rattle.js_body.specs.Tells.{around, PartsTell}
 use Rattle.js_body.specs.Later.{stands_later}
-use Rattle.js_body.proofs.Steps.{earlier, from_here, found, not_found, parts_depth}
+use Rattle.js_body.specs.StepLaws.{earlier, from_here, parts_depth}
+use Rattle.js_body.proofs.Steps.{found, not_found}
 use Rattle.js_body.proofs.body.Body.take.Goals as goal
 
 pub returns-in-Some : goal.returns-in-Some

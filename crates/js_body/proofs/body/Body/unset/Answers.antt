@@ -1,7 +1,8 @@
 use Rattle.std.proofs.Common.{sym, ◌∙◌}
 use Rattle.js_body.specs.State.{dropped_line, declares_first}
 use Rattle.js_body.specs.Tells.{around}
-use Rattle.js_body.proofs.Steps.{earlier, if_true, if_false, parts_dropped, parts_same}
+use Rattle.js_body.specs.StepLaws.{earlier, if_true, if_false, parts_same}
+use Rattle.js_body.proofs.Steps.{parts_dropped}
 use Rattle.js_body.proofs.body.Body.unset.Goals as goal
 
 pub returns-then-drop_line : goal.returns-then-drop_line

@@ -5,7 +5,7 @@ use Rattle.js_pool.specs.Stands.{Stands}
 use Rattle.js_body.specs.State.{slot_tree, slot_read}
 use Rattle.js_body.specs.Tells.{around}
 use Rattle.js_body.specs.Later.{itself, stands_later}
-use Rattle.js_body.proofs.Steps.{earlier, if_true, if_false, parts_kept}
+use Rattle.js_body.specs.StepLaws.{earlier, if_true, if_false, parts_kept}
 use Rattle.js_body.proofs.body.Body.var.Goals as goal
 
 pub returns-then-h : goal.returns-then-h

@@ -18,7 +18,7 @@ use Rattle.js_body.specs.declared.body.Operand.{Operand}
 use Rattle.js_body.specs.State.{State, Around, Line, word_bytes, line_tree, block_tree, with_lines_of}
 use Rattle.js_body.specs.Tells.{PartsTell, word_of, LineIs, declared, assigned, said, LinesAre, no_line, more_lines}
 use Rattle.js_body.specs.Later.{itself, stands_later}
-use Rattle.js_body.proofs.Steps.{from_here, lines_later, values_later}
+use Rattle.js_body.specs.StepLaws.{from_here, lines_later, values_later}
 
 name_word : (x : Name) → name_bytes x ≡ word_bytes (word_of x)
 name_word (name.Word w) = refl
