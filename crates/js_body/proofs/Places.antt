@@ -9,7 +9,7 @@ use Rattle.js_pool.specs.Stands.{Stands, Opened}
 use Rattle.js_pool.specs.declared.node.ExprId.{ExprId}
 use Rattle.js_pool.specs.declared.pool.Pool.{Pool}
 use Rattle.js_body.specs.declared.body.Operand.{Operand}
-use Rattle.js_body.specs.State.{State, Value, no_value, value_at, dropped_to, with_value}
+use Rattle.js_body.specs.State.{State, Around, Value, no_value, value_at, dropped_to, with_value}
 use Rattle.js_body.specs.Tells.{PartsTell, ValueIs, ValuesAre, no_values, more_values}
 
 values_push : {p : Pool} {os : List Operand} {vs : List Value} {o : Operand} {v : Value} → ValuesAre p os vs → ValueIs p o v → ValuesAre p (os ++ o ∷ []) (vs ++ v ∷ [])
@@ -58,32 +58,32 @@ values_past n no_values e = refl
 values_past zero (more_values h t) e = absurd (some_none e)
 values_past (suc n) (more_values h t) e = values_past n t e
 
-module _ (p : Pool) (o : Opened) (os : List Operand) (temps : ℕ) (ds : List Bool) (plain : Bool) (s : State) where
-  in_order : PartsTell p o os temps ds plain s → ValuesAre p os (reverse s.stack)
+module _ (p : Pool) (o : Opened) (os : List Operand) (temps : ℕ) (ds : List Bool) (near : Around) (s : State) where
+  in_order : PartsTell p o os temps ds near s → ValuesAre p os (reverse s.stack)
   in_order t = subst (λ (zs : List Operand). ValuesAre p zs (reverse s.stack)) (reverse-reverse os) (values_reverse t.stack)
 
-  pub parts_value_at : (place : ℕ) (x : Operand) → slice_get os place ≡ Some x → PartsTell p o os temps ds plain s → ValueIs p x (value_at place s)
+  pub parts_value_at : (place : ℕ) (x : Operand) → slice_get os place ≡ Some x → PartsTell p o os temps ds near s → ValueIs p x (value_at place s)
   parts_value_at place x e t = values_get place x (in_order t) e
 
-  pub parts_past : (place : ℕ) (x : Operand) → slice_get os place ≡ None → x.e ≡ record { 0 = 0 } → x.known ≡ no_value.known → PartsTell p o os temps ds plain s → ValueIs p x (value_at place s)
+  pub parts_past : (place : ℕ) (x : Operand) → slice_get os place ≡ None → x.e ≡ record { 0 = 0 } → x.known ≡ no_value.known → PartsTell p o os temps ds near s → ValueIs p x (value_at place s)
   parts_past place x e i k t = subst (λ (v : Value). ValueIs p x v) (sym (values_past place (in_order t) e)) (record { stands = subst (λ (a : ExprId). Stands p a no_value.tree) (sym i) t.first; known = k })
 
-  pub parts_dropped_to : (place : ℕ) (xs : List Operand) → xs ≡ take place os → PartsTell p o os temps ds plain s → PartsTell p o xs temps ds plain (dropped_to place s)
+  pub parts_dropped_to : (place : ℕ) (xs : List Operand) → xs ≡ take place os → PartsTell p o os temps ds near s → PartsTell p o xs temps ds near (dropped_to place s)
   parts_dropped_to place xs e t = record {
     first = t.first;
     lines = t.lines;
     stack = subst (λ (zs : List Operand). ValuesAre p (reverse zs) (dropped_to place s).stack) (sym e) (values_reverse (values_take place (in_order t)));
     temps_are = t.temps_are;
     declared_are = t.declared_are;
-    plain_is = t.plain_is;
+    around_is = t.around_is;
   }
 
-  pub parts_with_value : (place : ℕ) (xs : List Operand) (x : Operand) (v : Value) → xs ≡ set os place x → ValueIs p x v → PartsTell p o os temps ds plain s → PartsTell p o xs temps ds plain (with_value place v s)
+  pub parts_with_value : (place : ℕ) (xs : List Operand) (x : Operand) (v : Value) → xs ≡ set os place x → ValueIs p x v → PartsTell p o os temps ds near s → PartsTell p o xs temps ds near (with_value place v s)
   parts_with_value place xs x v e h t = record {
     first = t.first;
     lines = t.lines;
     stack = subst (λ (zs : List Operand). ValuesAre p (reverse zs) (with_value place v s).stack) (sym e) (values_reverse (values_set place x v h (in_order t)));
     temps_are = t.temps_are;
     declared_are = t.declared_are;
-    plain_is = t.plain_is;
+    around_is = t.around_is;
   }

@@ -1,3 +1,5 @@
-pub mod State
-pub mod Tells
+pub mod BlockLaws
 pub mod Later
+pub mod State
+pub mod StepLaws
+pub mod Tells

@@ -1,8 +1,15 @@
 -- The body of a function so far, without tables: the statements of its open blocks and the values on the stack, the last one first.
-use Rattle.std.specs.Prelude.{ℕ, zero, suc, ◌+◌, ◌-◌, ◌==◌, ◌&&◌, nat_lt, nat_le, min, List, [], ◌∷◌, ◌++◌, length, replicate, reverse, set, take, get_or, Bool, true, false, not, if◌then◌else◌, Option, Some, None, codes, bytes_eq, decimal}
+use Rattle.std.specs.Prelude.{ℕ, zero, suc, ◌+◌, ◌-◌, ◌==◌, ◌&&◌, nat_lt, nat_le, min, List, [], ◌∷◌, ◌++◌, length, replicate, reverse, set, take, get_or, slice_get, Bool, true, false, not, if◌then◌else◌, nat_eq, Option, Some, None, codes, bytes_eq, decimal}
+use Rattle.std.specs.List.{list_any}
 use Rattle.js_tree.specs.Script as script
 use Rattle.js_tree.specs.Script.{Expr, Stmts, no_stmts, stmt}
 use Rattle.js_pool.specs.Tree as tree
+use Rattle.js_pool.specs.declared.pool.Mark.{Mark}
+use Rattle.go_core.specs.declared.statement.Label.{Label}
+use Rattle.go_core.specs.declared.tree.FuncId.{FuncId}
+use Rattle.js_body.specs.declared.body.Exits.{Exits}
+use Rattle.js_body.specs.declared.body.Home.{Home}
+use Rattle.js_body.specs.declared.slices.Slices.{Slices}
 use Rattle.js_body.specs.declared.body.Known.{Known}
 use Rattle.js_body.specs.declared.body.Known.TheVariants as known
 
@@ -36,12 +43,31 @@ pub record Value : Type 0 where
   pub tree : Expr
   pub known : Known
 
+-- what a body knows besides: its function, slots of variables, labels
+pub record Around : Type 0 where
+  pub plain : Bool
+  pub func : Option FuncId
+  pub slots : List ℕ
+  pub results : List Home
+  pub defers : Bool
+  pub mentions_results : Bool
+  pub loops : ℕ
+  pub slices : Slices
+  pub exits : List Exits
+  pub next_case : ℕ
+  pub next_slot : ℕ
+  pub open_case : ℕ
+  pub open_lines : Mark
+  pub first_case : Mark
+  pub adapters : ℕ
+
+-- the statements and the values have the last one first
 pub record State : Type 0 where
   pub lines : List Line
   pub stack : List Value
   pub temps : ℕ
   pub declared : List Bool
-  pub plain : Bool
+  pub around : Around
 
 abbrev pub with_lines_of : List Line → State → State
 with_lines_of ls s = record s { lines = ls }
@@ -92,7 +118,7 @@ with_line l s = record s { lines = l ∷ s.lines }
 
 -- whether a statement that sets the temporary of a place is to declare it
 abbrev pub is_first : ℕ → State → Bool
-is_first place s = s.plain && not (get_or s.declared place false)
+is_first place s = s.around.plain && not (get_or s.declared place false)
 
 -- declared up to a place, and there as told
 abbrev pub marked : ℕ → Bool → List Bool → List Bool
@@ -141,7 +167,7 @@ abbrev pub set_last : State → Option Expr
 set_last s = if is_temporary (last_value s).known then set_by (depth s - 1) s.lines else None
 
 abbrev pub just_set : State → Option Expr
-just_set s = if s.plain then set_last s else None
+just_set s = if s.around.plain then set_last s else None
 
 abbrev pub declares_first : List Line → Bool
 declares_first (declares x e ∷ ls) = true
@@ -251,3 +277,83 @@ panic_tree n = tree.name (codes "$p" ++ decimal n)
 -- that panic where a test holds
 abbrev pub panicked_if : ℕ → Expr → State → State
 panicked_if n t s = with_line (says (script.branch 0 t (block_tree (panic_line (panic_tree n) ∷ []) no_stmts) script.no_else)) s
+
+-- ---- numbers of slots, of cases and of labels
+
+abbrev pub with_around : Around → State → State
+with_around near s = record s { around = near }
+
+abbrev pub next_slot : State → ℕ
+next_slot s = s.around.next_slot
+
+abbrev pub with_slots : ℕ → State → State
+with_slots n s = with_around (record (s.around) { next_slot = min (s.around.next_slot + n) 4294967295 }) s
+
+abbrev pub next_case : State → ℕ
+next_case s = s.around.next_case
+
+abbrev pub with_cases : ℕ → State → State
+with_cases n s = with_around (record (s.around) { next_case = min (s.around.next_case + n) 4294967295 }) s
+
+-- ---- the labels around, the innermost one last
+
+abbrev pub entered : Label → ℕ → ℕ → State → State
+entered l after next s = with_around (record (s.around) { exits = s.around.exits ++ record { label = l; after = after; next = next; continued = false } ∷ [] }) s
+
+abbrev pub was_continued : Option Exits → Bool
+was_continued (Some e) = e.continued
+was_continued None = false
+
+abbrev pub is_continued : State → Bool
+is_continued s = was_continued (slice_get s.around.exits (length s.around.exits - 1))
+
+abbrev pub left : State → State
+left s = with_around (record (s.around) { exits = take (length s.around.exits - 1) s.around.exits }) s
+
+-- ---- slots: elements of the frame in a machine, variables of the script in a plain function
+
+abbrev pub frame_tree : Expr
+frame_tree = tree.name (codes "$f")
+
+abbrev pub var_word : ℕ → Word
+var_word n = numbered (codes "$v") n
+
+-- what stands in a slot
+abbrev pub slot_tree : ℕ → State → Expr
+slot_tree n s = if s.around.plain then tree.name (word_bytes (var_word n)) else tree.index frame_tree (tree.number n)
+
+abbrev pub has_slot : ℕ → List Home → Bool
+has_slot n homes = list_any (λ (h : Home). nat_eq h.slot n) homes
+
+-- a plain function notes that it mentions a result
+abbrev pub noted : ℕ → Around → Around
+noted n near = record near { mentions_results = if has_slot n near.results then true else near.mentions_results }
+
+abbrev pub mentioned : ℕ → State → State
+mentioned n s = with_around (noted n s.around) s
+
+abbrev pub slot_read : ℕ → State → State
+slot_read n s = if s.around.plain then mentioned n s else s
+
+abbrev pub slot_set : ℕ → Expr → State → State
+slot_set n t s =
+    if s.around.plain then with_line (assigns (var_word n) t) (mentioned n s)
+    else with_line (says (script.store 0 frame_tree (tree.number n) t)) s
+
+-- the first time: a plain function declares it
+abbrev pub slot_begun : ℕ → Expr → State → State
+slot_begun n t s = if s.around.plain then with_line (declares (var_word n) t) s else slot_set n t s
+
+-- ---- variables: one that is boxed stands in an array of its own
+
+-- the value of a variable
+abbrev pub var_tree : Home → State → Expr
+var_tree h s = if h.boxed then tree.index (slot_tree h.slot s) (tree.number 0) else slot_tree h.slot s
+
+-- what stands in the slot of a fresh variable
+abbrev pub fresh_tree : Bool → Expr → Expr
+fresh_tree boxed t = if boxed then tree.array (tree.list1 t) else t
+
+-- a fresh variable with a value
+abbrev pub bound : Home → Expr → State → State
+bound h t s = slot_begun h.slot (fresh_tree h.boxed t) s

@@ -15,7 +15,7 @@ use Rattle.js_pool.specs.declared.node.Stmt.TheVariants as line
 use Rattle.js_pool.specs.declared.pool.Pool.{Pool}
 use Rattle.js_body.specs.declared.body.Body.{Body}
 use Rattle.js_body.specs.declared.body.Operand.{Operand}
-use Rattle.js_body.specs.State.{State, Value, Word, alone, numbered, Line, declares, assigns, says, rest_of}
+use Rattle.js_body.specs.State.{State, Around, Value, Word, alone, numbered, Line, declares, assigns, says, rest_of}
 
 abbrev pub word_of : Name → Word
 word_of (name.Word w) = alone w.now
@@ -50,16 +50,35 @@ pub data MayStand (p : Pool) : Option ExprId → Option Expr → Type 0 where
   stands_some : {a : ExprId} {t : Expr} → Stands p a t → MayStand p (Some a) (Some t)
 
 -- the parts of a body tell a state; `null` is the first expression of the tables
-pub record PartsTell (p : Pool) (o : Opened) (os : List Operand) (temps : ℕ) (ds : List Bool) (plain : Bool) (s : State) : Type 0 where
+pub record PartsTell (p : Pool) (o : Opened) (os : List Operand) (temps : ℕ) (ds : List Bool) (near : Around) (s : State) : Type 0 where
   pub first : Stands p (record { 0 = 0 }) tree.null
   pub lines : LinesAre p (reverse o.lines) s.lines
   pub stack : ValuesAre p (reverse os) s.stack
   pub temps_are : temps ≡ s.temps
   pub declared_are : ds ≡ s.declared
-  pub plain_is : plain ≡ s.plain
+  pub around_is : near ≡ s.around
+
+abbrev pub around : Body → Around
+around b = record {
+  plain = b.plain;
+  func = b.func;
+  slots = b.slots.items;
+  results = b.results.items;
+  defers = b.defers;
+  mentions_results = b.mentions_results;
+  loops = b.loops;
+  slices = b.slices;
+  exits = b.exits.items;
+  next_case = b.next_case;
+  next_slot = b.next_slot;
+  open_case = b.open_case;
+  open_lines = b.open_lines;
+  first_case = b.first_case;
+  adapters = b.adapters;
+}
 
 abbrev pub Tells : Body → State → Type 0
-Tells b s = PartsTell b.pool (opened b.pool) b.stack.items b.temps b.declared.items b.plain s
+Tells b s = PartsTell b.pool (opened b.pool) b.stack.items b.temps b.declared.items (around b) s
 
 -- memory hasn't run out
 abbrev pub Lasts : Body → Type 0
@@ -108,3 +127,7 @@ does_operation (node.Binary op a b) = true
 does_operation (node.Index a b) = true
 does_operation (node.Length a) = true
 does_operation _ = false
+
+-- likewise, and gives a number
+abbrev pub GivesNumber : Body → Body → ℕ → (State → ℕ) → (State → State) → Type 0
+GivesNumber p q r g f = Grows p.pool q.pool × (Lasts q → (s : State) → Tells p s → (r ≡ g s) × Tells q (f s))

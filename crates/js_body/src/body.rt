@@ -1,7 +1,12 @@
 //! The state of a translation, for one function after another.
 
+ghost use Rattle.std.specs.Prelude.{◌≡◌};
+ghost use Rattle.js_body.specs.State.{State, next_slot, with_slots, next_case, with_cases, entered, is_continued, left, frame_tree, has_slot, mentioned, slot_tree, slot_read, slot_set, slot_begun};
+ghost use Rattle.js_body.specs.Tells.{Tells, Runs, Runs1, Gives, GivesNumber};
+
 use crate::frame::{BEGINNING, HEAD};
 use crate::slices::Slices;
+use crate::stack::fail;
 use go_core::node::{Var, VarId};
 use go_core::statement::Label;
 use go_core::tree::FuncId;
@@ -82,6 +87,13 @@ pub struct Body<'p> {
     pub first_case: Mark,
     /// So many numbers of arguments have adapters, from none on: frames that call a plain function.
     pub adapters: u32,
+}
+
+// Whether a variable has a slot.
+fn has_slot(homes: &[Home], n: u32) -> bool
+    ensures { result ≡ has_slot n homes.now }
+{
+    homes.iter().any(|h| h.slot == n)
 }
 
 impl<'p> Body<'p> {
@@ -213,14 +225,18 @@ impl<'p> Body<'p> {
     }
 
     /// Fresh slots, for what a range holds; the first of them.
-    pub fn fresh_slots(&mut self, count: u32) -> u32 {
+    pub fn fresh_slots(&mut self, count: u32) -> u32
+        ensures { GivesNumber self.old self.new result next_slot (with_slots count) }
+    {
         let n = self.next_slot;
         self.next_slot = n.saturating_add(count);
         n
     }
 
     /// Fresh numbers of cases or labels; the first of them.
-    pub fn fresh(&mut self, count: u32) -> u32 {
+    pub fn fresh(&mut self, count: u32) -> u32
+        ensures { GivesNumber self.old self.new result next_case (with_cases count) }
+    {
         let n = self.next_case;
         self.next_case = n.saturating_add(count);
         n
@@ -235,47 +251,56 @@ impl<'p> Body<'p> {
     // ---- the frame, and variables of the script
 
     /// The frame of a machine.
-    pub fn frame(&mut self) -> ExprId {
+    pub fn frame(&mut self) -> ExprId
+        ensures { Gives self.old self.new result (λ s. frame_tree) (λ s. s) }
+    {
         self.pool.name(b"$f")
     }
 
     // Notes that a slot is mentioned.
-    fn mention(&mut self, n: u32) {
-        for h in self.results.as_slice() {
-            if h.slot == n {
-                self.mentions_results = true;
-            }
+    fn mention(&mut self, n: u32)
+        ensures { Runs self.old self.new (mentioned n) }
+    {
+        if has_slot(self.results.as_slice(), n) {
+            self.mentions_results = true;
         }
     }
 
     /// What stands in a slot.
-    pub fn slot(&mut self, n: u32) -> ExprId {
+    pub fn slot(&mut self, n: u32) -> ExprId
+        ensures { Gives self.old self.new result (slot_tree n) (slot_read n) }
+    {
         if self.plain {
             self.mention(n);
-            return self.pool.name_of(b"$v", n);
+            self.pool.name_of(b"$v", n)
+        } else {
+            let f = self.frame();
+            self.pool.at(f, n as u64)
         }
-        let f = self.frame();
-        self.pool.at(f, n as u64)
     }
 
     /// Sets a slot.
-    pub fn set_slot(&mut self, n: u32, e: ExprId) {
+    pub fn set_slot(&mut self, n: u32, e: ExprId)
+        ensures { Runs1 self.old self.new e (slot_set n) }
+    {
         if self.plain {
             self.mention(n);
             self.pool.assign(Name::Numbered(b"$v", n), e);
-            return;
+        } else {
+            let f = self.frame();
+            self.pool.store_at(f, n as u64, e);
         }
-        let f = self.frame();
-        self.pool.store_at(f, n as u64, e);
     }
 
     /// Sets a slot that nothing has set before: a plain function declares it there.
-    pub fn begin_slot(&mut self, n: u32, e: ExprId) {
+    pub fn begin_slot(&mut self, n: u32, e: ExprId)
+        ensures { Runs1 self.old self.new e (slot_begun n) }
+    {
         if self.plain {
             self.pool.declare(Name::Numbered(b"$v", n), e);
-            return;
+        } else {
+            self.set_slot(n, e);
         }
-        self.set_slot(n, e);
     }
 
     // ---- labels
@@ -296,15 +321,18 @@ impl<'p> Body<'p> {
     }
 
     /// Branches to a label lead here from now on.
-    pub fn enter_label(&mut self, label: Label, after: u32, next: u32) {
+    pub fn enter_label(&mut self, label: Label, after: u32, next: u32)
+        ensures { Runs self.old self.new (entered label after next) }
+    {
         let exits = Exits {
             label,
             after,
             next,
             continued: false,
         };
-        if self.exits.push(exits).is_err() {
-            self.pool.failed = true;
+        match self.exits.push(exits) {
+            Ok(()) => {}
+            Err(_) => fail(&mut self.pool),
         }
     }
 
@@ -319,7 +347,9 @@ impl<'p> Body<'p> {
     }
 
     /// Whether a branch went on with the next turn of the innermost label's loop.
-    pub fn is_continued(&self) -> bool {
+    pub fn is_continued(&self) -> bool
+        ensures { (s : State) → Tells self.now s → result ≡ is_continued s }
+    {
         match self.exits.last() {
             Some(exits) => exits.continued,
             None => false,
@@ -327,7 +357,9 @@ impl<'p> Body<'p> {
     }
 
     /// The innermost label is left.
-    pub fn leave_label(&mut self) {
+    pub fn leave_label(&mut self)
+        ensures { Runs self.old self.new left }
+    {
         let _ = self.exits.pop();
     }
 }

@@ -50,7 +50,7 @@ fn temp_number(place: usize) -> u32
 }
 
 // Memory ran out.
-fn fail(p: &mut Pool)
+pub(crate) fn fail(p: &mut Pool)
     ensures { p.new.failed ≡ true }
 {
     p.failed = true;

@@ -1,29 +1,36 @@
 //! Variables: their values, and fresh ones.
 
+ghost use Rattle.js_body.specs.State.{var_tree, fresh_tree, bound, slot_read};
+ghost use Rattle.js_body.specs.Tells.{Runs1, Gives, Gives1};
+
 use crate::body::{Body, Home};
 use go_core::node::VarId;
 use js_pool::ExprId;
 
 impl<'p> Body<'p> {
     /// The value of a variable, or the array in which a struct or an array is.
-    pub fn var(&mut self, h: Home) -> ExprId {
+    pub fn var(&mut self, h: Home) -> ExprId
+        ensures { Gives self.old self.new result (var_tree h) (slot_read h.slot) }
+    {
         let slot = self.slot(h.slot);
-        if h.boxed {
-            return self.pool.at(slot, 0);
-        }
-        slot
+        if h.boxed { self.pool.at(slot, 0) } else { slot }
     }
 
     /// What stands in the slot of a fresh variable with this value, which nothing else holds.
-    pub fn fresh_var(&mut self, boxed: bool, value: ExprId) -> ExprId {
+    pub fn fresh_var(&mut self, boxed: bool, value: ExprId) -> ExprId
+        ensures { Gives1 self.old self.new value result (λ t s. fresh_tree boxed t) (λ t s. s) }
+    {
         if boxed {
-            return self.pool.single(value);
+            self.pool.single(value)
+        } else {
+            value
         }
-        value
     }
 
     /// A fresh variable with this value, which nothing else holds.
-    pub fn bind(&mut self, h: Home, value: ExprId) {
+    pub fn bind(&mut self, h: Home, value: ExprId)
+        ensures { Runs1 self.old self.new value (bound h) }
+    {
         let e = self.fresh_var(h.boxed, value);
         self.begin_slot(h.slot, e);
     }

@@ -6,10 +6,10 @@ use Rattle.js_pool.specs.Says as say
 use Rattle.js_pool.specs.declared.node.Else.TheVariants as tail
 use Rattle.js_pool.specs.declared.node.Stmt.TheVariants as line
 use Rattle.js_body.specs.State.{says, panic_line, panic_tree, panicked, block_tree}
-use Rattle.js_body.specs.Tells.{said}
+use Rattle.js_body.specs.Tells.{around, said}
 use Rattle.js_body.specs.Later.{itself, stands_later, says_in_later}
-use Rattle.js_body.proofs.Blocks.{parts_lines, parts_closed}
-use Rattle.js_body.proofs.Steps.{earlier, from_here, parts_line}
+use Rattle.js_body.specs.BlockLaws.{parts_lines, parts_closed}
+use Rattle.js_body.specs.StepLaws.{earlier, from_here, parts_line}
 use Rattle.js_body.proofs.body.Body.panic_if.Goals as goal
 
 pub returns : goal.returns
@@ -23,9 +23,9 @@ returns c =
           let m2 = earlier p q c.when.ensures.0 l in
           let m1 = earlier d.pool p c.close-block.ensures.0 m2 in
           let a = c.panic.ensures.1 m1 s r in
-          let e : c.open-mark.result.0 ≡ length s.lines = c.open-mark.ensures ∙ parts_lines b.pool (opened b.pool) b.stack.items b.temps b.declared.items b.plain s r in
-          let k = parts_closed d.pool p d.stack.items d.temps d.declared.items d.plain (panicked (panic_tree c.args.number) s) c.open-mark.result.0 c.close-block.result (panic_line (panic_tree c.args.number) ∷ []) s.lines refl e c.close-block.ensures m2 a in
+          let e : c.open-mark.result.0 ≡ length s.lines = c.open-mark.ensures ∙ parts_lines b.pool (opened b.pool) b.stack.items b.temps b.declared.items (around b) s r in
+          let k = parts_closed d.pool p d.stack.items d.temps d.declared.items (around d) (panicked (panic_tree c.args.number) s) c.open-mark.result.0 c.close-block.result (panic_line (panic_tree c.args.number) ∷ []) s.lines refl e c.close-block.ensures m2 a in
           let g = c.when.ensures.0 q (itself q l) in
           let old = from_here b.pool q (λ end z. c.panic.ensures.0 end (c.close-block.ensures.0 end (c.when.ensures.0 end z))) l in
-          parts_line p q d.stack.items d.temps d.declared.items d.plain s (line.If c.args.test c.close-block.result tail.Nothing) (says (script.branch 0 t (block_tree (panic_line (panic_tree c.args.number) ∷ []) no_stmts) script.no_else)) c.when.ensures l (said refl (say.branch (stands_later old h) (says_in_later g k.0) say.nothing)) k.1,
+          parts_line p q d.stack.items d.temps d.declared.items (around d) s (line.If c.args.test c.close-block.result tail.Nothing) (says (script.branch 0 t (block_tree (panic_line (panic_tree c.args.number) ∷ []) no_stmts) script.no_else)) c.when.ensures l (said refl (say.branch (stands_later old h) (says_in_later g k.0) say.nothing)) k.1,
     )

@@ -1,6 +1,6 @@
 use Rattle.std.proofs.Common.{◌≡◌, length, refl, arith}
 use Rattle.std.proofs.lemmas.List.{nil_from_length}
-use Rattle.js_body.proofs.Steps.{parts_popped, parts_empty}
+use Rattle.js_body.specs.StepLaws.{parts_popped, parts_empty}
 use Rattle.js_body.proofs.body.Body.pop.Goals as goal
 
 pub returns-in-Some : goal.returns-in-Some

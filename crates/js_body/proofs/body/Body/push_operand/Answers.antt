@@ -1,7 +1,8 @@
 use Rattle.std.proofs.Common.{sym, ap}
 use Rattle.js_body.specs.declared.body.Known.{Known}
 use Rattle.js_body.specs.State.{pushed_operand}
-use Rattle.js_body.proofs.Steps.{parts_same, other_known}
+use Rattle.js_body.specs.StepLaws.{parts_same}
+use Rattle.js_body.proofs.Steps.{other_known}
 use Rattle.js_body.proofs.body.Body.push_operand.Goals as goal
 
 pub returns-in-Nothing : goal.returns-in-Nothing

@@ -1,4 +1,4 @@
-use Rattle.js_body.proofs.Steps.{fails, no_more, parts_value}
+use Rattle.js_body.specs.StepLaws.{fails, no_more, parts_value}
 use Rattle.js_body.proofs.body.Body.put.Goals as goal
 
 pub returns-in-Ok : goal.returns-in-Ok

@@ -1,5 +1,5 @@
 use Rattle.js_body.specs.State.{pushed}
-use Rattle.js_body.proofs.Steps.{earlier}
+use Rattle.js_body.specs.StepLaws.{earlier}
 use Rattle.js_body.proofs.body.Body.scratch.Goals as goal
 
 pub returns : goal.returns

@@ -1,4 +1,4 @@
-use Rattle.js_body.proofs.Steps.{fails, no_more}
+use Rattle.js_body.specs.StepLaws.{fails, no_more}
 use Rattle.js_body.proofs.body.Body.set_declared.Goals as goal
 
 pub returns-then-not-note : goal.returns-then-not-note

@@ -3,7 +3,7 @@ use Rattle.js_pool.specs.declared.node.Stmt.TheVariants as line
 use Rattle.js_body.specs.State.{declares, assigns, is_first, with_declared}
 use Rattle.js_body.specs.Tells.{word_of, declared, assigned}
 use Rattle.js_body.specs.Later.{itself, stands_later}
-use Rattle.js_body.proofs.Steps.{earlier, if_true, if_false, parts_line, parts_same}
+use Rattle.js_body.specs.StepLaws.{earlier, if_true, if_false, parts_line, parts_same}
 use Rattle.js_body.proofs.body.Body.set_name.Goals as goal
 
 pub returns-then-is_first : goal.returns-then-is_first

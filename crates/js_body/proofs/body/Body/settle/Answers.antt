@@ -1,6 +1,6 @@
 use Rattle.std.proofs.Common.{◌≡◌, true, false, sym, ap, ◌∙◌}
 use Rattle.js_body.specs.State.{last_value, popped, is_temporary}
-use Rattle.js_body.proofs.Steps.{earlier, if_true, if_false, parts_same}
+use Rattle.js_body.specs.StepLaws.{earlier, if_true, if_false, parts_same}
 use Rattle.js_body.proofs.body.Body.settle.Goals as goal
 
 pub returns-then-is_temporary : goal.returns-then-is_temporary

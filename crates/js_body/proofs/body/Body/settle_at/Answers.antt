@@ -1,6 +1,6 @@
 use Rattle.std.proofs.Common.{◌≡◌, true, false, sym, ap, ◌∙◌}
 use Rattle.js_body.specs.State.{value_at, is_variable}
-use Rattle.js_body.proofs.Steps.{if_true, if_false, parts_same}
+use Rattle.js_body.specs.StepLaws.{if_true, if_false, parts_same}
 use Rattle.js_body.proofs.body.Body.settle_at.Goals as goal
 
 pub returns-then-is_variable : goal.returns-then-is_variable

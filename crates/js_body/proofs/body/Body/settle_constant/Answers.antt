@@ -1,6 +1,6 @@
 use Rattle.std.proofs.Common.{◌≡◌, true, false, sym, ap, ◌∙◌}
 use Rattle.js_body.specs.State.{last_value, is_variable}
-use Rattle.js_body.proofs.Steps.{if_true, if_false, parts_same}
+use Rattle.js_body.specs.StepLaws.{if_true, if_false, parts_same}
 use Rattle.js_body.proofs.body.Body.settle_constant.Goals as goal
 
 pub returns-then-not-is_variable : goal.returns-then-not-is_variable

@@ -1,8 +1,8 @@
 use Rattle.std.proofs.Common.{◌≡◌, ℕ, suc, ◌+◌, arith, subst}
 use Rattle.js_pool.specs.Stands.{opened}
 use Rattle.js_body.specs.State.{settled_upto}
-use Rattle.js_body.specs.Tells.{PartsTell}
-use Rattle.js_body.proofs.Steps.{earlier}
+use Rattle.js_body.specs.Tells.{around, PartsTell}
+use Rattle.js_body.specs.StepLaws.{earlier}
 use Rattle.js_body.proofs.body.Body.settle_variables.Goals as goal
 
 pub loop-i-preserved : goal.loop-i-preserved
@@ -13,5 +13,5 @@ loop-i-preserved c =
       λ end g. c.loop-i.invariant.0 end (c.settle_at.ensures.0 end g),
       λ l s t.
           let k = earlier m.pool q.pool c.settle_at.ensures.0 l in
-          subst (λ (n : ℕ). PartsTell q.pool (opened q.pool) q.stack.items q.temps q.declared.items q.plain (settled_upto n s)) e (c.settle_at.ensures.1 l (settled_upto c.loop-i.i s) (c.loop-i.invariant.1 k s t)),
+          subst (λ (n : ℕ). PartsTell q.pool (opened q.pool) q.stack.items q.temps q.declared.items (around q) (settled_upto n s)) e (c.settle_at.ensures.1 l (settled_upto c.loop-i.i s) (c.loop-i.invariant.1 k s t)),
     )

@@ -2,7 +2,8 @@ use Rattle.std.proofs.Common.{◌≡◌, true, false, sym, ap, ◌∙◌, subst}
 use Rattle.js_tree.specs.Script.{Expr}
 use Rattle.js_pool.specs.Stands.{Stands}
 use Rattle.js_body.specs.State.{last_value, popped, just_set, is_taken, taken_tree, taken}
-use Rattle.js_body.proofs.Steps.{found, not_found, if_true, if_false, parts_same}
+use Rattle.js_body.specs.StepLaws.{if_true, if_false, parts_same}
+use Rattle.js_body.proofs.Steps.{found, not_found}
 use Rattle.js_body.proofs.body.Body.take_operand.Goals as goal
 
 pub returns-then-is_operation : goal.returns-then-is_operation

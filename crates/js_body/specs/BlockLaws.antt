@@ -15,10 +15,10 @@ use Rattle.js_pool.specs.declared.node.Stmt.{Stmt}
 use Rattle.js_pool.specs.declared.node.Stmt.TheVariants as line
 use Rattle.js_pool.specs.declared.pool.Pool.{Pool}
 use Rattle.js_body.specs.declared.body.Operand.{Operand}
-use Rattle.js_body.specs.State.{State, Line, word_bytes, line_tree, block_tree, with_lines_of}
+use Rattle.js_body.specs.State.{State, Around, Line, word_bytes, line_tree, block_tree, with_lines_of}
 use Rattle.js_body.specs.Tells.{PartsTell, word_of, LineIs, declared, assigned, said, LinesAre, no_line, more_lines}
 use Rattle.js_body.specs.Later.{itself, stands_later}
-use Rattle.js_body.proofs.Steps.{from_here, lines_later, values_later}
+use Rattle.js_body.specs.StepLaws.{from_here, lines_later, values_later}
 
 name_word : (x : Name) → name_bytes x ≡ word_bytes (word_of x)
 name_word (name.Word w) = refl
@@ -48,14 +48,14 @@ lines_split p (l ∷ ls) base _ (more_lines {x = x} {xs = xs} h t) =
     (x ∷ r.0, r.1, ap (λ (k : List Stmt). x ∷ k) r.2, more_lines h r.3, r.4)
 
 -- how many statements there are
-pub parts_lines : (p : Pool) (o : Opened) (os : List Operand) (temps : ℕ) (ds : List Bool) (plain : Bool) (s : State) → PartsTell p o os temps ds plain s → length o.lines ≡ length s.lines
-parts_lines p o os temps ds plain s t = sym (length-reverse o.lines) ∙ lines_length t.lines
+pub parts_lines : (p : Pool) (o : Opened) (os : List Operand) (temps : ℕ) (ds : List Bool) (near : Around) (s : State) → PartsTell p o os temps ds near s → length o.lines ≡ length s.lines
+parts_lines p o os temps ds near s t = sym (length-reverse o.lines) ∙ lines_length t.lines
 
 -- the statements since a mark are a block
-pub parts_closed : (p q : Pool) (os : List Operand) (temps : ℕ) (ds : List Bool) (plain : Bool) (s : State) (mark : ℕ) (b : Block) (inner base : List Line)
-    → s.lines ≡ inner ++ base → mark ≡ length base → ClosesBlock p q mark b → q.failed ≡ false → PartsTell p (opened p) os temps ds plain s
-    → SaysIn q b (block_tree inner no_stmts) × PartsTell q (opened q) os temps ds plain (with_lines_of base s)
-parts_closed p q os temps ds plain s mark b inner base e m c l t =
+pub parts_closed : (p q : Pool) (os : List Operand) (temps : ℕ) (ds : List Bool) (near : Around) (s : State) (mark : ℕ) (b : Block) (inner base : List Line)
+    → s.lines ≡ inner ++ base → mark ≡ length base → ClosesBlock p q mark b → q.failed ≡ false → PartsTell p (opened p) os temps ds near s
+    → SaysIn q b (block_tree inner no_stmts) × PartsTell q (opened q) os temps ds near (with_lines_of base s)
+parts_closed p q os temps ds near s mark b inner base e m c l t =
     let g : Later p q = from_here p q c.0 l in
     let r = lines_split p inner base (reverse (opened p).lines) (subst (λ (ls : List Line). LinesAre p (reverse (opened p).lines) ls) e t.lines) in
     let parts : (opened p).lines ≡ reverse r.1 ++ reverse r.0 = sym (reverse-reverse (opened p).lines) ∙ ap reverse r.2 ∙ reverse-append r.0 r.1 in
@@ -69,6 +69,6 @@ parts_closed p q os temps ds plain s mark b inner base e m c l t =
         stack = values_later g t.stack;
         temps_are = t.temps_are;
         declared_are = t.declared_are;
-        plain_is = t.plain_is;
+        around_is = t.around_is;
       },
     )
