@@ -1,7 +1,7 @@
 """fails.py PROGRAM [MOST]: builds and runs three programs once for each of their allocations, in which that one fails,
 and once more where all after it fail too: at most MOST (1000) each, spread over all. A call that doesn't end as it
-should has to end with 71 and its line, or with 66 or 74 where the C library wants the memory; nothing may be stored,
-and what was printed must be a beginning of what the program prints."""
+should has to end with 71 and its line, without it where the words aren't read yet, or with 66 or 74 where the C library
+wants the memory; nothing may be stored, and what was printed must be a beginning of what the program prints."""
 import os
 import shutil
 import subprocess
@@ -65,7 +65,7 @@ def fault(got, right, where):
     code, out, told = got
     if got == right:
         return None
-    if TOLD.get(code) != told:
+    if TOLD.get(code) != told and (code, told) != (71, b''):
         return f'ends with {code} {told[:80]!r}'
     if not right[1].startswith(out):
         return f'prints {out[:80]!r}'
