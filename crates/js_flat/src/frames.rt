@@ -35,10 +35,10 @@ pub fn end_frame(b: &mut Body<'_>, mark: Mark, empty: u32) -> ExprId {
     b.pool.array(items)
 }
 
-/// The frame of a function that is the present one, with its first operand.
-pub fn frame(b: &mut Body<'_>, id: FuncId, f: &Func, first: ExprId) -> ExprId {
+/// The frame of a function that is the present one, once its machine is done and all slots are known.
+pub fn frame(b: &mut Body<'_>, id: FuncId, f: &Func) -> ExprId {
     let mark = begin_frame(b, Name::Numbered(b"$m", id.0));
-    add_vars(b, id, f, first);
+    add_vars(b, id, f);
     for i in 0..f.captured.items.len() {
         let held = b.pool.name(b"$c");
         let e = b.pool.at(held, (i as u64).saturating_add(1));
@@ -57,7 +57,7 @@ pub fn frame(b: &mut Body<'_>, id: FuncId, f: &Func, first: ExprId) -> ExprId {
 }
 
 // What stands in the slots of variables at first: operands, results at zero, and nothing yet.
-fn add_vars(b: &mut Body<'_>, id: FuncId, f: &Func, first: ExprId) {
+fn add_vars(b: &mut Body<'_>, id: FuncId, f: &Func) {
     let params = b.facts.param_count(id);
     let set = params.saturating_add(f.sig.results.as_slice().len());
     let mut i: u32 = 0;
@@ -69,8 +69,6 @@ fn add_vars(b: &mut Body<'_>, id: FuncId, f: &Func, first: ExprId) {
         } else {
             let value = if at >= params {
                 b.zero(h.ty)
-            } else if i == 0 {
-                first
             } else {
                 operand(b, i)
             };

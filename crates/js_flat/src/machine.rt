@@ -1,7 +1,7 @@
 //! Machines and the makers of their frames.
 
 use crate::ends::{begin_ending, ending, give_results};
-use crate::frames::{begin_frame, end_frame, frame, maker_params, operand};
+use crate::frames::{begin_frame, end_frame, frame, maker_params};
 use crate::stmt::stmts;
 use go_core::program::{Func, InitStep};
 use go_core::tree::FuncId;
@@ -56,8 +56,7 @@ fn finish(b: &mut Body<'_>, x: Name, cases: Cases) {
 // `function $aK($u,$c,$0,$1){return [$mK,1,$u,..];}`
 fn maker(b: &mut Body<'_>, id: FuncId, f: &Func) {
     let mark = b.pool.open();
-    let first = operand(b, 0);
-    let e = frame(b, id, f, first);
+    let e = frame(b, id, f);
     b.pool.give(e);
     let body = b.pool.close(mark);
     let params = b.facts.param_count(id);

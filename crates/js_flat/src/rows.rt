@@ -2,7 +2,7 @@
 //! as it is in an interface value and in a method value, after the frame below where it makes a frame. Go
 //! specification (as of Go 1.17), "Method sets", "Method values".
 
-use crate::frames::{begin_frame, end_frame, frame, maker_params, operand};
+use crate::frames::{begin_frame, end_frame, maker_params, operand};
 use go_core::program::{Func, MethodRow};
 use go_core::tree::FuncId;
 use go_type::types::{GoType, TypeId};
@@ -36,8 +36,21 @@ fn return_frame(b: &mut Body<'_>, row: &MethodRow, f: &Func) {
         return_nil_frame(b);
     }
     let receiver = receiver(b, row.ty, to);
-    let e = frame(b, row.func, f, receiver);
+    let e = made_frame(b, row.func, receiver);
     b.pool.give(e);
+}
+
+// The frame that the function's maker gives: only there it is known how many slots the machine has.
+fn made_frame(b: &mut Body<'_>, id: FuncId, receiver: ExprId) -> ExprId {
+    let maker = b.pool.name_of(b"$a", id.0);
+    let mark = b.pool.open_list();
+    let below = b.pool.name(b"$u");
+    b.pool.item(below);
+    let none = b.pool.null();
+    b.pool.item(none);
+    add_operands(b, id, receiver);
+    let items = b.pool.close_list(mark);
+    b.pool.call(maker, items)
 }
 
 // Where the receiver is read through nil, the new frame does no more than to panic.
@@ -73,13 +86,17 @@ fn plain_call(b: &mut Body<'_>, id: FuncId, receiver: ExprId) -> ExprId {
         let none = b.pool.null();
         b.pool.item(none);
     }
+    add_operands(b, id, receiver);
+    let items = b.pool.close_list(mark);
+    b.pool.call(callee, items)
+}
+
+fn add_operands(b: &mut Body<'_>, id: FuncId, receiver: ExprId) {
     b.pool.item(receiver);
     for i in 1..b.facts.param_count(id) {
         let e = operand(b, if i < 4294967295 { i as u32 } else { 0 });
         b.pool.item(e);
     }
-    let items = b.pool.close_list(mark);
-    b.pool.call(callee, items)
 }
 
 // ---- receivers
