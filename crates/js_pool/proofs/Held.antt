@@ -1,5 +1,5 @@
 -- What a part of a table holds is one list.
-use Rattle.std.proofs.Common.{◌≡◌, ℕ, suc, zero, List, [], ◌∷◌, take, drop, ◌+◌, ◌-◌, ◌≤◌, ◌<◌, min, length, Some, None, refl, sym, ◌∙◌, ap, arith, ap₂}
+use Rattle.std.proofs.Common.{◌≡◌, ℕ, suc, zero, List, [], ◌∷◌, ◌++◌, take, drop, ◌+◌, ◌-◌, ◌≤◌, ◌<◌, min, length, length-take, length-drop, Some, None, refl, sym, ◌∙◌, ap, arith, ap₂}
 use Rattle.std.specs.List.{slice_get}
 use Rattle.js_pool.specs.Stands.{HeldAt}
 
@@ -22,7 +22,13 @@ get_drop xs zero i = let e : 0 + i ≡ i = omega arith in rw e refl
 get_drop [] (suc n) i = refl
 get_drop (x ∷ xs) (suc n) i = let e : suc n + i ≡ suc (n + i) = omega arith in rw e (get_drop xs n i)
 
-get_below : {A : Type 0} (xs : List A) (i : ℕ) (x : A) → slice_get xs i ≡ Some x → i < length xs
+take_get : {A : Type 0} (xs : List A) (n i : ℕ) (x : A) → slice_get (take n xs) i ≡ Some x → slice_get xs i ≡ Some x
+take_get xs zero i x h = absurd (none_some h)
+take_get [] (suc n) i x h = h
+take_get (y ∷ xs) (suc n) zero x h = h
+take_get (y ∷ xs) (suc n) (suc i) x h = take_get xs n i x h
+
+pub get_below : {A : Type 0} (xs : List A) (i : ℕ) (x : A) → slice_get xs i ≡ Some x → i < length xs
 get_below [] i x h = absurd (none_some h)
 get_below (y ∷ xs) zero x h = omega arith
 get_below (y ∷ xs) (suc i) x h = omega (arith, get_below xs i x h)
@@ -67,3 +73,21 @@ part_is table (x ∷ xs) from many f m e g h =
     let i : f ≡ from = omega arith in
     let j : m ≡ many = omega arith in
     rw (i, j) (held_take table (x ∷ xs) from many h)
+
+-- a part within a list is held there
+pub range_held : {A : Type 0} (table : List A) (from many : ℕ) → from + many ≤ length table → HeldAt table from many (take many (drop from table))
+range_held table from many h = record {
+  all = (let a : length (take many (drop from table)) ≡ min many (length (drop from table)) = length-take many (drop from table) in
+      let b : length (drop from table) ≡ length table - from = length-drop from table in
+      omega arith);
+  each = λ i x g. sym (get_drop table from i) ∙ take_get (drop from table) many i x g;
+}
+
+take_suc : {A : Type 0} (xs : List A) (i : ℕ) (x : A) → slice_get xs i ≡ Some x → take (suc i) xs ≡ take i xs ++ x ∷ []
+take_suc [] i x h = absurd (none_some h)
+take_suc (y ∷ xs) zero x h = ap (λ z. z ∷ []) (some_is h)
+take_suc (y ∷ xs) (suc i) x h = ap (λ zs. y ∷ zs) (take_suc xs i x h)
+
+-- a part of a list up to an element, and the element
+pub take_more : {A : Type 0} (xs : List A) (i : ℕ) (x : A) → slice_get xs i ≡ Some x → take (i + 1) xs ≡ take i xs ++ x ∷ []
+take_more xs i x h = let e : i + 1 ≡ suc i = omega arith in rw e (take_suc xs i x h)

@@ -3,3 +3,4 @@ pub mod Tree
 pub mod Stands
 pub mod StmtTree
 pub mod Says
+pub mod Begins

@@ -7,6 +7,7 @@
 #![tactic(auto)]
 
 pub mod expr;
+mod made;
 pub mod name;
 pub mod node;
 pub mod pool;

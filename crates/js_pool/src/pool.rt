@@ -4,6 +4,8 @@ ghost use Rattle.std.specs.Prelude.{◌≡◌, ◌≤◌, ◌-◌, true, length,
 ghost use Rattle.std.specs.Fmt.{decimal};
 ghost use Rattle.js_tree.specs.Script.{Expr};
 ghost use Rattle.js_pool.specs.Stands.{HeldAt, Later, Keeps, opened, MakesNode, MakesBytes, MakesList, Stands, Shows, AddsItem, ClosesList, Puts, ClosesBytes};
+ghost use Rattle.js_pool.specs.Begins.{Begins, no_open};
+ghost use Rattle.js_pool.specs.Tree as tree;
 ghost use Rattle.js_pool.specs.Says.{AddsLine, ClosesBlock, Includes, AddsCase, ClosesCases, PutsNames, ClosesNames, MakesNames, AddsTop};
 ghost use Rattle.js_pool.specs.declared.node.Item.TheVariants as item;
 ghost use Rattle.js_pool.specs.declared.node.ExprId.{ExprId};
@@ -56,8 +58,20 @@ fn next_number(len: usize) -> Option<u32>
 }
 
 impl Pool {
-    /// Tables with nothing in them.
-    pub fn new(alloc: Global) -> Pool {
+    /// Tables with nothing in them but expression 0, which is `null`.
+    pub fn new(alloc: Global) -> Pool
+        ensures { Begins result }
+    {
+        let mut pool = Pool::blank(alloc);
+        pool.begin();
+        pool
+    }
+
+    fn blank(alloc: Global) -> Pool
+        ensures nodes { result.nodes.items ≡ [] }
+        ensures items { result.items.items ≡ [] }
+        ensures open { opened result ≡ no_open }
+    {
         Pool {
             nodes: Vec::new(alloc),
             lists: Vec::new(alloc),
@@ -72,6 +86,16 @@ impl Pool {
             arms: Vec::new(alloc),
             alloc,
             failed: false,
+        }
+    }
+
+    fn begin(&mut self)
+        ensures open { opened self.new ≡ opened self.old }
+        ensures first { self.old.nodes.items ≡ [] → (end : Pool) → Later self.new end → (self.new.items.items ≡ self.old.items.items) × Stands end (record { 0 = 0 }) tree.null }
+    {
+        match self.nodes.push(Node::Null) {
+            Ok(()) => {}
+            Err(_) => self.fail(),
         }
     }
 
