@@ -1,1 +1,3 @@
+pub mod NodeLemmas
 pub mod RoundLemmas
+pub mod TargetLemmas

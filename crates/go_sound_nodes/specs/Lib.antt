@@ -1,3 +1,4 @@
 pub mod Around
 pub mod Known
+pub mod ListView
 pub mod Statements

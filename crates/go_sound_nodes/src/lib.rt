@@ -4,8 +4,10 @@
 //! Go 1.17, "Expressions", "Statements", "Declarations and scope").
 #![tactic(auto)]
 
+mod expr;
 pub mod judge;
 mod place;
+mod plain;
 pub mod round;
-pub mod statements;
-pub mod targets;
+mod statements;
+mod targets;

@@ -7,7 +7,7 @@ use Rattle.go_core.specs.CoreView.{clauses_of, stmts_view}
 use Rattle.go_core.specs.Sound.{HasClause}
 use Rattle.go_core.specs.declared.statement.CoreClause.{CoreClause, out-CoreClause, fold_out-CoreClause}
 use Rattle.go_core.specs.declared.statement.CoreClauses.{CoreClauses, out-CoreClauses, fold_out-CoreClauses}
-use Rattle.go_sound_nodes.specs.Statements.{clause_view, clauses_view}
+use Rattle.go_sound_nodes.specs.ListView.{clause_view, clauses_view}
 use Rattle.go_sound_nodes.proofs.statements.has_clause.Goals as goal
 
 clause_whole : (ts : List Ty) (c : CoreClause) (rest : Clauses) → clause_view ts c rest ≡ clause (stmts_view ts (out-CoreClause c).body) (out-CoreClause c).falls_through rest

@@ -1,7 +1,7 @@
 use Rattle.std.proofs.Common.{ℕ, sym, subst}
 use Rattle.std.specs.Prelude.{Option}
 use Rattle.go_core.specs.Sound.{HasDefault}
-use Rattle.go_sound_nodes.specs.Statements.{clauses_view}
+use Rattle.go_sound_nodes.specs.ListView.{clauses_view}
 use Rattle.go_sound_nodes.proofs.statements.has_default.Goals as goal
 
 pub returns-in-Some : goal.returns-in-Some

@@ -1,0 +1,9 @@
+pub mod Bodies
+pub mod ClauseView
+pub mod Facts
+pub mod Functions
+pub mod Imports
+pub mod Packages
+pub mod Rows
+pub mod Variables
+pub mod Whole
