@@ -289,6 +289,7 @@ fn func<'a>(
     let id = c.names.intern(name.text.as_bytes())?;
     let func = add_body(c, u, id, name.place, None, sig, block)?;
     let unit = next_unit(c)?;
+    let faults = c.faults.len();
     if id == INIT && c.member(c.package, INIT).is_none() {
         let package = c.package;
         c.declare_in(package, INIT, name.place, Entity::Init, None)?;
@@ -302,6 +303,9 @@ fn func<'a>(
         })?;
     } else {
         add_name(c, u, name, unit, Entity::Unknown, 0)?;
+    }
+    if c.faults.len() != faults {
+        c.spoil(func)?;
     }
     add_unit(c, u, UnitForm::Func(sig), 1, func)
 }

@@ -7,6 +7,7 @@ use crate::literals::{Literals, in_stmts};
 use crate::stmt::{NONE_OF_THEM, stmt_list};
 use crate::terminating::ends;
 use gj_base::{NoMemory, Place};
+use go_check_expr::types::{param_types, result_types};
 use go_check_state::node::VarRef;
 use go_check_state::state::joined;
 use go_check_state::{Checker, EMPTY, Entity, FaultCode, FuncRow, NONE, NameId};
@@ -42,15 +43,46 @@ fn named(
     }
 }
 
+// The types of the parameters: those of the signature, or where that isn't typed each by itself.
+fn types_of(c: &mut Checker, sig: TypeId, list: &Params) -> Result<Vec<TypeId>, NoMemory> {
+    let mut types: Vec<TypeId> = Vec::new(c.alloc);
+    if c.has(sig) {
+        for number in 0..list.items.len() {
+            types.push(c.param(sig, number))?;
+        }
+        return Ok(types);
+    }
+    match param_types(c, list, true)? {
+        Some((types, _)) => Ok(types),
+        None => Ok(types),
+    }
+}
+
+// A signature with the results: that of the function, or where it isn't typed one of the results alone.
+fn with_results(c: &mut Checker, sig: TypeId, results: &Results) -> Result<TypeId, NoMemory> {
+    if c.has(sig) {
+        return Ok(sig);
+    }
+    let Some((types, _)) = result_types(c, results)? else {
+        return Ok(NONE);
+    };
+    for t in types.iter() {
+        if !c.is_set(*t) {
+            return Ok(NONE);
+        }
+    }
+    c.func_of(Vec::new(c.alloc), types, false)
+}
+
 fn declare_params(
     c: &mut Checker,
     vars: &mut Vec<u32>,
-    sig: TypeId,
+    types: &Vec<TypeId>,
     list: &Params,
 ) -> Result<(), NoMemory> {
     for number in 0..list.items.len() {
         let (name, at) = named(c, list, number, list.place)?;
-        let t = c.param(sig, number);
+        let t = types.get(number).copied().unwrap_or(NONE);
         parameter(c, vars, name, at, t)?;
     }
     Ok(())
@@ -170,30 +202,34 @@ fn function_body(c: &mut Checker, body: BodyRow<'_>) -> Result<(), NoMemory> {
         return Ok(());
     };
     enter(c, body.func, row);
+    let types = types_of(c, row.sig, &body.sig.params)?;
+    let sig = with_results(c, row.sig, &body.sig.results)?;
     c.open()?;
-    let mut f = Frame::new(c.alloc, row.sig);
+    let mut f = Frame::new(c.alloc, sig);
     let mut vars: Vec<u32> = Vec::new(c.alloc);
     let block = body.block;
     declare_receiver(c, &mut vars, body.receiver, row.receiver)?;
-    declare_params(c, &mut vars, row.sig, &body.sig.params)?;
+    declare_params(c, &mut vars, &types, &body.sig.params)?;
     declare_results(
         c,
         &mut f,
         &mut vars,
-        row.sig,
+        sig,
         &body.sig.results,
         block.place,
     )?;
+    let start = c.mark();
     labels_in(c, &mut f, &block.stmts)?;
-    let before = c.told();
     let core = stmt_list(c, &mut f, &block.stmts, NONE_OF_THEM)?;
     f.tell_labels(c)?;
     c.close();
     c.current = None;
-    let typed = c.has(row.sig) && c.told() == before;
-    if typed && !returns_nothing(&body.sig.results) && !ends(c, &block.stmts) {
-        c.fault(FaultCode::MissingReturn, block.end)?;
-    }
+    let fault = if returns_nothing(&body.sig.results) || ends(c, &block.stmts) {
+        None
+    } else {
+        Some((FaultCode::MissingReturn, block.end))
+    };
+    c.end_body(body.func, c.has(row.sig), fault, start)?;
     let params = c.nodes.list(vars.as_slice())?;
     set_body(c, body.func, params, core);
     Ok(())
