@@ -15,6 +15,7 @@ use Rattle.go_core.specs.CoreTree.{CoreProgram}
 use Rattle.go_syntax.specs.Tree as t
 use Rattle.go_typing.specs.Checked.{told}
 use Rattle.go_core.specs.CoreView.{program_view}
+use Rattle.go_core.specs.SoundProgram.{Sound}
 use Rattle.go_core.specs.declared.program.Program.{Program}
 use Rattle.go_type.specs.Table.{places}
 use Rattle.gj_plain.specs.MainView.{main_view}
@@ -81,22 +82,31 @@ none_plain packages unlike = by (main_of packages) unlike
     by None none = refl
     by (Some main) none = absurd (cc)
 
--- what comes of packages of which nothing is told
-pub checked : PlainOnlyPrints → (packages : Packages) (c : Checked) → told (decls_in packages) ≡ [] → IsProgramOf (decls_in packages) c.program → c.is_plain ≡ is_some (main_of packages) → FrontsPackages (Ok c) packages
-checked law packages c right of asked = by c.is_plain refl
-  where
-    by : (b : Bool) → c.is_plain ≡ b → FrontsPackages (Ok c) packages
-    by true is_plain = inl (is_plain, prints_alone law packages c.program of (sym asked ∙ is_plain), held packages c.program right of (sym asked ∙ is_plain))
-    by false unlike = inr (unlike, record { fault = unbuilt_fault; why = inr (right, none_plain packages (sym asked ∙ unlike), refl); unbuilt = refl })
+-- what comes of packages of which nothing is told: a plain root
+pub checked : PlainOnlyPrints → (packages : Packages) (c : Checked) → told (decls_in packages) ≡ [] → IsProgramOf (decls_in packages) c.program → c.is_plain ≡ true → true ≡ is_some (main_of packages) → FrontsPackages (Ok c) packages
+checked law packages c right of is_plain asked = inl (is_plain, prints_alone law packages c.program of (sym asked), held packages c.program right of (sym asked))
+
+-- F0 is told of packages whose root isn't plain
+pub unplain : (packages : Packages) → told (decls_in packages) ≡ [] → false ≡ is_some (main_of packages) → AreBeyond packages
+unplain packages right asked = record { fault = unbuilt_fault; why = inr (right, none_plain packages (sym asked), refl); unbuilt = refl }
+
+-- what comes of packages that the proved checker leaves
+pub went_on : (r : Result Checked Refused) (packages : Packages) → AreBeyond packages → GoesOn r → FrontsPackages r packages
+went_on (Ok c) packages beyond goes = inr (goes.0, goes.1, beyond)
+went_on (Err (refused.Fault fault entries)) packages beyond goes = absurd goes
+went_on (Err (refused.Beyond fault entries)) packages beyond goes = beyond
+went_on (Err refused.ReadFault) packages beyond goes = absurd goes
+went_on (Err refused.NoMemory) packages beyond goes = tt
+went_on (Err refused.Internal) packages beyond goes = beyond
 
 -- what comes of packages that were read with their imports
 pub imported : (r : Result Checked Refused) (old new : FilesState) → new ≡ old → GoesOn r → Imports r old new
-imported (Ok c) old new same goes = (goes, same)
+imported (Ok c) old new same goes = (goes.0, goes.1, same)
 imported (Err (refused.Fault fault entries)) old new same goes = absurd goes
 imported (Err (refused.Beyond fault entries)) old new same goes = same
 imported (Err refused.ReadFault) old new same goes = absurd goes
 imported (Err refused.NoMemory) old new same goes = same
-imported (Err refused.Internal) old new same goes = absurd goes
+imported (Err refused.Internal) old new same goes = same
 
 -- and of a folder that has none
 pub not_imported : (refusal : LoadRefusal) (why : Refused) (old new : FilesState) → IsUnloaded refusal why → Leaves {A = Packages} (Err refusal) old new → Imports (Err why) old new
@@ -140,7 +150,7 @@ fronts r folder packages old new same some read are comes = by r comes
 
     by : (r : Result Checked Refused) → FrontsPackages r packages → Fronts r folder old new
     by (Ok c) (inl plain) = (same, inl (plain.0, plain.1, holds old.tree folder packages (program_view c.program) some read are plain.2))
-    by (Ok c) (inr other) = (same, inr (other.0, beyond other.1))
+    by (Ok c) (inr other) = (same, inr (other.0, other.1, beyond other.2))
     by (Err (refused.Fault fault entries)) (files, least, code) = (
       same,
       subst (λ (es : List FileEntry). 0 < length es) (sym files) some,
@@ -151,7 +161,7 @@ fronts r folder packages old new same some read are comes = by r comes
     by (Err (refused.Beyond fault entries)) b = (same, beyond b)
     by (Err refused.ReadFault) none = absurd none
     by (Err refused.NoMemory) u = same
-    by (Err refused.Internal) none = absurd none
+    by (Err refused.Internal) b = (same, beyond b)
 
 -- what comes of a folder without packages
 pub unloaded : (refusal : LoadRefusal) (r : Result Checked Refused) (folder : List ℕ) (old mid new : FilesState) → Loads (Err refusal) folder old mid → FrontsUnloaded r refusal mid new → Fronts r folder old new
@@ -161,12 +171,12 @@ unloaded (load.Fault fault entries) r folder old mid new loads comes = elim come
 ]
   where
     later : (r : Result Checked Refused) → IsBeyond folder old → Imports r old new → Fronts r folder old new
-    later (Ok c) beyond comes = (comes.1, inr (comes.0, beyond))
+    later (Ok c) beyond comes = (comes.2, inr (comes.0, comes.1, beyond))
     later (Err (refused.Fault f es)) beyond none = absurd none
     later (Err (refused.Beyond f es)) beyond same = (same, beyond)
     later (Err refused.ReadFault) beyond fails = inr (fails, beyond)
     later (Err refused.NoMemory) beyond same = same
-    later (Err refused.Internal) beyond none = absurd none
+    later (Err refused.Internal) beyond same = (same, beyond)
 unloaded load.ReadFault r folder old mid new loads (is, same) =
     subst (λ (x : Result Checked Refused). Fronts x folder old new) (sym is) (inl (subst (λ (s : FilesState). FailsToRead folder old s) (sym same) loads))
 unloaded load.NoMemory r folder old mid new loads (is, same) = subst (λ (x : Result Checked Refused). Fronts x folder old new) (sym is) (same ∙ loads)
@@ -182,11 +192,11 @@ compiles r c folder old new same checked scripts = by r scripts checked
 
     beyond : IsChecked c folder old → c.is_plain ≡ false → IsBeyond folder old
     beyond (inl plain) unlike = let bad : true ≡ false = sym plain.0 ∙ unlike in absurd (cc)
-    beyond (inr other) unlike = other.1
+    beyond (inr other) unlike = other.2
 
     by : (r : Result Script Refused) → Scripts r c → IsChecked c folder old → Compiles r folder old new
     by (Ok script) scripts (inl plain) = (same, scripts.0, inl (right old.tree (script_view script) plain.2 (scripts.1 plain.0)))
-    by (Ok script) scripts (inr other) = (same, scripts.0, inr other.1)
+    by (Ok script) scripts (inr other) = (same, scripts.0, inr other.2)
     by (Err (refused.Fault f es)) none checked = absurd none
     by (Err (refused.Beyond f es)) unlike checked = (same, beyond checked unlike)
     by (Err refused.ReadFault) none checked = absurd none
@@ -197,3 +207,8 @@ compiles r c folder old new same checked scripts = by r scripts checked
 pub prints_of : (c : Checked) (folder : List ℕ) (old : FilesState) → IsChecked c folder old → c.is_plain ≡ true → only_prints (program_view c.program) ≡ true
 prints_of c folder old (inl plain) is = plain.1
 prints_of c folder old (inr other) is = let bad : true ≡ false = sym is ∙ other.0 in absurd (cc)
+
+-- any other program is Sound
+pub sound_of : (c : Checked) (folder : List ℕ) (old : FilesState) → IsChecked c folder old → c.is_plain ≡ false → Sound (program_view c.program)
+sound_of c folder old (inl plain) unlike = let bad : true ≡ false = sym plain.0 ∙ unlike in absurd (cc)
+sound_of c folder old (inr other) unlike = other.1

@@ -11,6 +11,7 @@ use Rattle.go_load.specs.Load.{IsFaultOf, FailsToRead}
 use Rattle.go_load.specs.declared.sources.FileEntry.{FileEntry}
 use Rattle.go_core.specs.CoreTree.{CoreProgram}
 use Rattle.go_core.specs.CoreView.{program_view}
+use Rattle.go_core.specs.SoundProgram.{Sound}
 use Rattle.go_type.specs.Tree.{Ty}
 use Rattle.go_typing.specs.Answer.{Flaw}
 use Rattle.go_typing.specs.Checked.{told, fault_of, program_of}
@@ -105,11 +106,11 @@ IsRefused refused.ReadFault folder old new = FailsToRead folder old new ⊎ (Fai
 IsRefused refused.NoMemory folder old new = new ≡ old
 IsRefused refused.Internal folder old new = (new ≡ old) × IsBeyond folder old
 
--- the program is that of a plain package, or the folder is beyond what is proved
+-- the program is that of a plain package; or it is Sound, and the folder is beyond what is proved
 abbrev pub IsChecked : Checked → List ℕ → FilesState → Type 0
 IsChecked c folder old =
     ((c.is_plain ≡ true) × (only_prints (program_view c.program) ≡ true) × IfSome old.tree (λ tree. HoldsProgram tree folder (program_view c.program)))
-    ⊎ ((c.is_plain ≡ false) × IsBeyond folder old)
+    ⊎ ((c.is_plain ≡ false) × Sound (program_view c.program) × IsBeyond folder old)
 
 abbrev pub Fronts : Result Checked Refused → List ℕ → FilesState → FilesState → Type 0
 Fronts (Ok c) folder old new = (new ≡ old) × IsChecked c folder old

@@ -16,6 +16,7 @@ use Rattle.go_typing.specs.Checked.{told, fault_of, program_of}
 use Rattle.go_stmt.specs.Checks.{root_trees, fault_with}
 use Rattle.go_core.specs.CoreTree.{CoreProgram}
 use Rattle.go_core.specs.CoreView.{program_view}
+use Rattle.go_core.specs.SoundProgram.{Sound}
 use Rattle.go_core.specs.declared.program.Program.{Program}
 use Rattle.go_type.specs.Tree.{Ty}
 use Rattle.js_tree.specs.View.{script_view}
@@ -63,30 +64,31 @@ pub record AreBeyond (packages : Packages) : Type 0 where
 -- packages without a fault of a stage come to this
 abbrev pub FrontsPackages : Result Checked Refused → Packages → Type 0
 FrontsPackages (Ok c) packages =
-    ((c.is_plain ≡ true) × (only_prints (program_view c.program) ≡ true) × IsHeld packages (program_view c.program)) ⊎ ((c.is_plain ≡ false) × AreBeyond packages)
+    ((c.is_plain ≡ true) × (only_prints (program_view c.program) ≡ true) × IsHeld packages (program_view c.program))
+    ⊎ ((c.is_plain ≡ false) × Sound (program_view c.program) × AreBeyond packages)
 FrontsPackages (Err (refused.Fault fault entries)) packages = (entries ≡ packages.files) × IsLeastOf (decls_in packages) fault × (fault.code ≢ 0)
 FrontsPackages (Err (refused.Beyond fault entries)) packages = AreBeyond packages
 FrontsPackages (Err refused.ReadFault) packages = ⊥
 FrontsPackages (Err refused.NoMemory) packages = Unit {0}
-FrontsPackages (Err refused.Internal) packages = ⊥
+FrontsPackages (Err refused.Internal) packages = AreBeyond packages
 
--- what the checker of the whole profile gives
+-- what the checker of the whole profile gives, and what comes of any program that isn't plain: a Sound one goes on
 abbrev pub GoesOn : Result Checked Refused → Type 0
-GoesOn (Ok c) = c.is_plain ≡ false
+GoesOn (Ok c) = (c.is_plain ≡ false) × Sound (program_view c.program)
 GoesOn (Err (refused.Fault fault entries)) = ⊥
 GoesOn (Err (refused.Beyond fault entries)) = Unit {0}
 GoesOn (Err refused.ReadFault) = ⊥
 GoesOn (Err refused.NoMemory) = Unit {0}
-GoesOn (Err refused.Internal) = ⊥
+GoesOn (Err refused.Internal) = Unit {0}
 
 -- the same after imports were read
 abbrev pub Imports : Result Checked Refused → FilesState → FilesState → Type 0
-Imports (Ok c) old new = (c.is_plain ≡ false) × (new ≡ old)
+Imports (Ok c) old new = (c.is_plain ≡ false) × Sound (program_view c.program) × (new ≡ old)
 Imports (Err (refused.Fault fault entries)) old new = ⊥
 Imports (Err (refused.Beyond fault entries)) old new = new ≡ old
 Imports (Err refused.ReadFault) old new = FailsLater old new
 Imports (Err refused.NoMemory) old new = new ≡ old
-Imports (Err refused.Internal) old new = ⊥
+Imports (Err refused.Internal) old new = new ≡ old
 
 -- what a refusal of the loader of imports becomes
 abbrev pub IsUnloaded : LoadRefusal → Refused → Type 0

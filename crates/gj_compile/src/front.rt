@@ -2,7 +2,7 @@
 //!
 //! The proved loader and the proved checker of scalar programs come first, and what they answer stands.
 //! Only where they tell that a form isn't built yet the loader of imports and the checker of the whole
-//! profile go on.
+//! profile go on. A program that isn't plain, whichever checker gives it, goes on only where it is Sound.
 
 ghost use Rattle.std.specs.Prelude.{◌≡◌, [], ℕ, Err, IfOk, codes, drop, is_some, take, true};
 ghost use Rattle.go_typing.specs.Checked.{told};
@@ -11,7 +11,7 @@ ghost use Rattle.gj_compile.specs.Answers.{Fronts, NameImport, NamesImport};
 ghost use Rattle.gj_compile.specs.Fronts.{decls_in, main_of, FrontsPackages, FrontsUnloaded};
 
 use crate::refused::Refused;
-use crate::whole::{check_imports, check_whole};
+use crate::whole::{check_imports, check_whole, only_sound};
 use gj_base::{Files, NoMemory, Refusal};
 use gj_plain::plain::plain_main;
 use go_core::program::Program;
@@ -139,18 +139,36 @@ fn accepted(alloc: Global, packages: Packages, program: Program) -> Result<Check
     requires is { IsProgramOf (decls_in packages) program }
     ensures { FrontsPackages result packages }
 {
-    plain();
     match is_plain(alloc, &packages) {
-        Ok(is_plain) => Ok(Checked {
-            program,
-            files: packages.into_files(),
-            is_plain,
-        }),
+        Ok(is_plain) => of_kind(alloc, packages, program, is_plain),
         Err(_) => {
             gone_program(program);
             Err(Refused::NoMemory)
         }
     }
+}
+
+/// The same, where it is known whether the root is plain.
+fn of_kind(
+    alloc: Global,
+    packages: Packages,
+    program: Program,
+    is_plain: bool,
+) -> Result<Checked, Refused>
+    requires right { told (decls_in packages) ≡ [] }
+    requires is { IsProgramOf (decls_in packages) program }
+    requires asked { is_plain ≡ is_some (main_of packages) }
+    ensures { FrontsPackages result packages }
+{
+    plain();
+    if is_plain {
+        return Ok(Checked {
+            program,
+            files: packages.into_files(),
+            is_plain,
+        });
+    }
+    only_sound(alloc, packages, program)
 }
 
 /// Whether the root is plain.

@@ -2,6 +2,7 @@
 
 ghost use Rattle.std.specs.Prelude.{◌≡◌, [], IfOk, true, false};
 ghost use Rattle.go_core.specs.CoreView.{program_view};
+ghost use Rattle.go_core.specs.SoundProgram.{Sound};
 ghost use Rattle.js_prints.specs.Faithful.{Faithful};
 ghost use Rattle.js_prints.specs.Prints.{only_prints};
 ghost use Rattle.js_tree.specs.Printable.{IsPrintable};
@@ -24,8 +25,10 @@ use std::alloc::Global;
 const CYCLE: u16 = 48;
 
 /// The script of a program, which is printable; `Beyond` where its package variables need themselves.
+/// One that isn't plain is Sound.
 pub fn script_of(alloc: Global, checked: Checked) -> Result<Script, Refused>
-    requires { checked.is_plain ≡ true → only_prints (program_view checked.program) ≡ true }
+    requires plain { checked.is_plain ≡ true → only_prints (program_view checked.program) ≡ true }
+    requires sound { checked.is_plain ≡ false → Sound (program_view checked.program) }
     ensures { Scripts result checked }
 {
     if checked.is_plain {
@@ -47,8 +50,9 @@ fn plain_script(alloc: Global, program: Program) -> Result<Script, Refused>
     }
 }
 
-/// The script of any program.
+/// The script of a Sound program.
 fn whole_script(alloc: Global, program: Program, files: Sources) -> Result<Script, Refused>
+    requires { Sound (program_view program) }
     ensures { ScriptsAny result }
 {
     let made = translated(alloc, &program);

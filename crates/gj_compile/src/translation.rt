@@ -1,6 +1,8 @@
 //! From a program of the core to its script, by its order of initialisation and its marks.
 
 ghost use Rattle.std.specs.Prelude.{IfOk};
+ghost use Rattle.go_core.specs.CoreView.{program_view};
+ghost use Rattle.go_core.specs.SoundProgram.{Sound};
 ghost use Rattle.js_tree.specs.Printable.{IsPrintable};
 ghost use Rattle.js_tree.specs.View.{script_view};
 
@@ -53,8 +55,9 @@ impl From<EmitRefusal> for Untranslated {
     }
 }
 
-/// The script of a program, which is printable.
+/// The script of a Sound program, which is printable.
 pub fn translated(alloc: Global, program: &Program) -> Result<Script, Untranslated>
+    requires { Sound (program_view program.now) }
     ensures { IfOk result (λ script. IsPrintable (script_view script)) }
 {
     let order = init_order(alloc, program)?;

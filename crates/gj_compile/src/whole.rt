@@ -6,8 +6,11 @@ use crate::front::Checked;
 use crate::refused::{Refused, beyond};
 use gj_base::Files;
 use go_check::check;
+use go_core::program::Program;
 use go_import::load_program;
+use go_is_sound::is_sound;
 use go_load::{LoadRefusal, Packages};
+use go_stmt::gone_program;
 use std::alloc::Global;
 
 /// Reads a folder with its imports, and checks it.
@@ -41,11 +44,28 @@ pub fn check_whole(alloc: Global, packages: Packages) -> Result<Checked, Refused
     ensures { GoesOn result }
 {
     match check(alloc, &packages) {
-        Ok(program) => Ok(Checked {
+        Ok(program) => only_sound(alloc, packages, program),
+        Err(refusal) => Err(beyond(refusal, packages.into_files())),
+    }
+}
+
+/// What comes of a program that isn't plain: it is Sound, or it goes no further.
+pub fn only_sound(alloc: Global, packages: Packages, program: Program) -> Result<Checked, Refused>
+    ensures { GoesOn result }
+{
+    match is_sound(alloc, &program) {
+        Ok(true) => Ok(Checked {
             program,
             files: packages.into_files(),
             is_plain: false,
         }),
-        Err(refusal) => Err(beyond(refusal, packages.into_files())),
+        Ok(false) => {
+            gone_program(program);
+            Err(Refused::Internal)
+        }
+        Err(_) => {
+            gone_program(program);
+            Err(Refused::NoMemory)
+        }
     }
 }

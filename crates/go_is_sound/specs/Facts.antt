@@ -16,6 +16,11 @@ use Rattle.go_is_sound.specs.Rows.{DeclaresAll}
 abbrev pub IsMarked : List Bool → rows.MethodRow → Type 0
 IsMarked marks row = slice_get marks row.func.0 ≡ Some true
 
+-- each row of the type leads to a method of it; where it is marked, its methods have rows
+pub record RowsKnownOf (p : Program) (t : TypeId) (marked : Bool) : Type 0 where
+  pub declared : DeclaresAll p t
+  pub has_rows : marked ≡ true → HasRows (program_view p) (tree_of (places p.types) t)
+
 -- of the first types: where one is marked, its methods have rows; each row of one leads to a method of it
 pub record RowsKnown (p : Program) (marks : List Bool) (count : ℕ) : Type 0 where
   pub counted : length marks ≡ count

@@ -1,20 +1,21 @@
 //! What is asked of a program often, worked out once.
 
-ghost use Rattle.std.specs.Prelude.{◌≡◌, ◌++◌, ℕ, IfOk, IfSome, OnOk, Some, true, false, map, flat_map, slice_get};
+ghost use Rattle.std.specs.Prelude.{◌≡◌, ◌<◌, ◌++◌, ℕ, IfOk, IfSome, OnOk, Some, true, false, map, flat_map, slice_get};
 ghost use Rattle.std.specs.List.{AllByRecursion};
 ghost use Rattle.go_type.specs.Table.{places, size};
 ghost use Rattle.go_core.specs.CoreView.{program_view, var_of};
 ghost use Rattle.go_core.specs.SoundNode.{IsRowOf};
 ghost use Rattle.go_core.specs.SoundProgram.{all_vars, func_vars, initialiser_vars};
 ghost use Rattle.go_sound_parts.specs.Measures.{AreKnown};
-ghost use Rattle.go_is_sound.specs.Facts.{ArePlaced, Holds, IsMarked, RowsKnown};
+ghost use Rattle.go_is_sound.specs.Facts.{ArePlaced, Holds, IsMarked, RowsKnown, RowsKnownOf};
 
-use crate::rows::{has_rows, rows_declared};
+use crate::rows::{has_no_row, has_rows, rows_declared};
 use crate::types::are_good;
 use gj_base::NoMemory;
 use go_core::node::{Var, VarId};
 use go_core::program::{MethodRow, Program};
 use go_core::tree::FuncId;
+use go_sound_parts::levels::is_interface;
 use go_sound_parts::measures::Measure;
 use go_type::types::TypeId;
 use std::alloc::Global;
@@ -88,17 +89,32 @@ fn are_marked(p: &Program, is_method: &[bool]) -> bool
 
 // ---- types whose methods have rows
 
+// Whether the methods of a type have rows; nothing where a row is no method of it. Nothing wraps a value
+// of an interface type, so it isn't asked for methods where it has no row.
+fn rows_at(alloc: Global, p: &Program, t: TypeId) -> Result<Option<bool>, NoMemory>
+    requires t { t.0 < size p.now.types }
+    ensures is { IfOk result (λ o. IfSome o (λ b. RowsKnownOf p.now t b)) }
+{
+    if is_interface(&p.types, t) && has_no_row(p, t) {
+        return Ok(Some(false));
+    }
+    let set = p.types.method_set(alloc, t)?;
+    if !rows_declared(p, t, set.as_slice()) {
+        return Ok(None);
+    }
+    Ok(Some(has_rows(p, t, set.as_slice())))
+}
+
 // Of each type whether its methods have rows; nothing where a row is no method of its type.
 fn rows_of(alloc: Global, p: &Program) -> Result<Option<Vec<bool>>, NoMemory>
     ensures is { IfOk result (λ o. IfSome o (λ v. RowsKnown p.now v.items (size p.now.types))) }
 {
     let mut found = Vec::new(alloc);
     'types: for i in 0..p.types.len() {
-        let set = p.types.method_set(alloc, TypeId(i))?;
-        if !rows_declared(p, TypeId(i), set.as_slice()) {
-            return Ok(None);
+        match rows_at(alloc, p, TypeId(i))? {
+            Some(has_rows) => found.push(has_rows)?,
+            None => return Ok(None),
         }
-        found.push(has_rows(p, TypeId(i), set.as_slice()))?;
     }
     Ok(Some(found))
 }

@@ -91,6 +91,13 @@ pub fn rows_declared(p: &Program, t: TypeId, set: &[MethodSpec]) -> bool
     all_declared(p, t, set)
 }
 
+/// Whether a type has no row.
+pub fn has_no_row(p: &Program, t: TypeId) -> bool
+    ensures is { result ≡ true → DeclaresAll p.now t }
+{
+    all_declared(p, t, &[])
+}
+
 // ---- receivers
 
 // Whether a receiver takes what a row's type gives: a value of it, what it points to, or a pointer
