@@ -72,6 +72,8 @@ module _ (p : Pool) (o : Opened) (os : List Operand) (temps : ℕ) (ds : List Bo
   parts_dropped_to place xs e t = record {
     first = t.first;
     lines = t.lines;
+    items = t.items;
+    arms = t.arms;
     stack = subst (λ (zs : List Operand). ValuesAre p (reverse zs) (dropped_to place s).stack) (sym e) (values_reverse (values_take place (in_order t)));
     temps_are = t.temps_are;
     declared_are = t.declared_are;
@@ -82,6 +84,8 @@ module _ (p : Pool) (o : Opened) (os : List Operand) (temps : ℕ) (ds : List Bo
   parts_with_value place xs x v e h t = record {
     first = t.first;
     lines = t.lines;
+    items = t.items;
+    arms = t.arms;
     stack = subst (λ (zs : List Operand). ValuesAre p (reverse zs) (with_value place v s).stack) (sym e) (values_reverse (values_set place x v h (in_order t)));
     temps_are = t.temps_are;
     declared_are = t.declared_are;

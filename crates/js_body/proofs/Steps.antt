@@ -1,12 +1,15 @@
 -- Lemmas for single steps.
-use Rattle.std.proofs.Common.{◌≡◌, ℕ, zero, suc, ◌+◌, ◌-◌, ◌<◌, min, nat_le, arith, ap₂, if◌then◌else◌, List, [], ◌∷◌, ◌++◌, reverse, length, Bool, true, false, Option, Some, None, refl, sym, ap, ◌∙◌, subst, true≢false}
+use Rattle.std.proofs.Common.{◌≡◌, ℕ, zero, suc, ◌+◌, ◌-◌, ◌<◌, min, nat_le, nat_eq, arith, ap₂, if◌then◌else◌, List, [], ◌∷◌, ◌++◌, reverse, length, Bool, true, false, Option, Some, None, refl, sym, ap, ◌∙◌, subst, true≢false}
 use Rattle.std.proofs.lemmas.List.{reverse-append, length-reverse, nil_from_length}
 use Rattle.std.proofs.lemmas.Option.{slice_get_within, slice_get-get_or}
+use Rattle.std.proofs.lemmas.Bool.Decides.{nat_tests}
 use Rattle.std.specs.List.{slice_get}
 use Rattle.js_tree.specs.Script.{Expr}
 use Rattle.js_pool.specs.Stands as rule
 use Rattle.js_pool.specs.Stands.{Stands, Shows, Holds, Later, Grows, Keeps, Opened, opened}
 use Rattle.js_pool.specs.Says.{AddsLine}
+use Rattle.js_pool.specs.Begins.{Begins}
+use Rattle.js_pool.specs.declared.pool.Mark.{Mark}
 use Rattle.js_pool.specs.declared.node.ExprId.{ExprId}
 use Rattle.js_pool.specs.declared.name.Name.{Name}
 use Rattle.js_pool.specs.declared.node.Node.{Node}
@@ -15,11 +18,16 @@ use Rattle.js_pool.specs.declared.node.Stmt.TheVariants as line
 use Rattle.js_body.specs.declared.body.Known.{Known}
 use Rattle.js_body.specs.declared.body.Known.TheVariants as known
 use Rattle.js_pool.specs.declared.pool.Pool.{Pool}
+use Rattle.js_facts.specs.declared.facts.Facts.{Facts}
 use Rattle.js_body.specs.declared.body.Operand.{Operand}
-use Rattle.js_body.specs.State.{State, Around, Value, Line, declares, assigns, is_temp, set_by, declares_first, dropped_line, is_operation, pushed_known, pushed_operand, no_value, first_value, rest_of, with_line, pushed_value, last_value, popped, marked, with_declared, with_temp, with_around}
-use Rattle.js_body.specs.Tells.{word_of, sets_name, is_declaration, first_declares, DropsLine, does_operation, MayStand, stands_none, stands_some, PartsTell, LineIs, declared, assigned, said, LinesAre, no_line, more_lines, ValueIs, ValuesAre, no_values, more_values}
+use Rattle.js_body.specs.declared.body.Home.{Home}
+use Rattle.js_body.specs.declared.body.Exits.{Exits}
+use Rattle.js_body.specs.declared.slices.Noted.{Noted}
+use Rattle.js_body.specs.State.{State, Around, Value, Line, declares, assigns, says, begun_near, begun, mark_at, empty, no_function, only_set, is_joined, is_temp, set_by, declares_first, dropped_line, is_operation, pushed_known, pushed_operand, no_value, first_value, rest_of, with_line, pushed_value, last_value, popped, marked, with_declared, with_temp, with_around}
+use Rattle.js_body.specs.Tells.{word_of, sets_name, is_declaration, first_declares, DropsLine, does_operation, joins, MayStand, stands_none, stands_some, PartsTell, LineIs, declared, assigned, said, LinesAre, no_line, more_lines, ItemsAre, no_item, ArmsAre, no_arm, ValueIs, ValuesAre, no_values, more_values}
 use Rattle.js_body.specs.Later.{itself, stands_later, says_later}
-use Rattle.js_body.specs.StepLaws.{from_here, if_false, if_true, lines_later, parts_empty, parts_popped, rev_push, values_later}
+use Rattle.js_body.specs.ListLaws.{parts_arms}
+use Rattle.js_body.specs.StepLaws.{from_here, if_false, if_true, lines_later, items_kept, arms_kept, parts_empty, parts_popped, rev_push, values_later}
 
 some_is : {A : Type 0} {x y : A} → Some x ≡ Some y → x ≡ y
 some_is e = cc
@@ -57,6 +65,8 @@ module _ (p : Pool) (o : Opened) (os : List Operand) (temps : ℕ) (ds : List Bo
   parts_declared ds' place b e t = record {
     first = t.first;
     lines = t.lines;
+    items = t.items;
+    arms = t.arms;
     stack = t.stack;
     temps_are = t.temps_are;
     declared_are = e ∙ ap (marked place b) t.declared_are;
@@ -68,6 +78,8 @@ module _ (p : Pool) (o : Opened) (os : List Operand) (temps : ℕ) (ds : List Bo
   parts_counted temps' k e t = record {
     first = t.first;
     lines = t.lines;
+    items = t.items;
+    arms = t.arms;
     stack = t.stack;
     temps_are = e ∙ ap (λ (n : ℕ). if nat_le n k then min (k + 1) 4294967295 else n) t.temps_are;
     declared_are = t.declared_are;
@@ -129,6 +141,8 @@ parts_dropped p q os temps ds near s r d l t =
       record {
         first = stands_later g t.first;
         lines = subst (λ (xs : List Stmt). LinesAre q xs (rest_of s.lines)) (sym d.1) (lines_later g h.0);
+        items = items_kept g (opened p).rest (opened q).rest s.items (ap (λ (z : Opened). z.rest) (d.0.1 q (itself q l))) t.items;
+        arms = arms_kept g (opened p).arms (opened q).arms s.arms (ap (λ (z : Opened). z.arms) (d.0.1 q (itself q l))) t.arms;
         stack = values_later g t.stack;
         temps_are = t.temps_are;
         declared_are = t.declared_are;
@@ -239,8 +253,133 @@ pub parts_near : (p : Pool) (o : Opened) (os : List Operand) (temps : ℕ) (ds :
 parts_near p o os temps ds near near' s f e t = record {
   first = t.first;
   lines = t.lines;
+  items = t.items;
+  arms = t.arms;
   stack = t.stack;
   temps_are = t.temps_are;
   declared_are = t.declared_are;
   around_is = e ∙ ap f t.around_is;
 }
+
+-- ---- how a function begins
+
+mark_is : (m : Mark) (n : ℕ) → m.0 ≡ n → m ≡ mark_at n
+mark_is m n e = ap mark_at e
+
+pub parts_begun : (p : Pool) (os xs : List Operand) (temps : ℕ) (ds es : List Bool) (near near' : Around) (s : State) (b : Bool) (m : Mark)
+    → xs ≡ [] → es ≡ [] → m.0 ≡ length (opened p).arms → near' ≡ begun_near b m near → PartsTell p (opened p) os temps ds near s → PartsTell p (opened p) xs 0 es near' (begun b s)
+parts_begun p os xs temps ds es near near' s b m e f h n t =
+    let k : m ≡ mark_at (length s.arms) = mark_is m (length s.arms) (h ∙ parts_arms p (opened p) os temps ds near s t) in
+    record {
+      first = t.first;
+      lines = t.lines;
+      items = t.items;
+      arms = t.arms;
+      stack = subst (λ (zs : List Operand). ValuesAre p (reverse zs) []) (sym e) no_values;
+      temps_are = refl;
+      declared_are = f;
+      around_is = n ∙ ap (begun_near b m) t.around_is ∙ ap (λ (z : Mark). begun_near b z s.around) k;
+    }
+
+abbrev pub around_with : Facts → List ℕ → List Home → List Noted → List Exits → Mark → Mark → Around
+around_with f slots results noted exits m k = record {
+  facts = f;
+  plain = false;
+  func = None;
+  slots = slots;
+  results = results;
+  defers = false;
+  mentions_results = false;
+  loops = 0;
+  opened = noted;
+  exits = exits;
+  next_case = 2;
+  next_slot = 8;
+  open_case = 1;
+  open_lines = m;
+  first_case = k;
+  adapters = 0;
+}
+
+pub around_new : (f : Facts) (slots : List ℕ) (results : List Home) (noted : List Noted) (exits : List Exits) (m k : Mark)
+    → slots ≡ [] → results ≡ [] → noted ≡ [] → exits ≡ [] → m.0 ≡ 0 → k.0 ≡ 0 → around_with f slots results noted exits m k ≡ no_function f
+around_new f slots results noted exits m k a b c d g h =
+    ap (λ (z : List ℕ). around_with f z results noted exits m k) a
+    ∙ ap (λ (z : List Home). around_with f [] z noted exits m k) b
+    ∙ ap (λ (z : List Noted). around_with f [] [] z exits m k) c
+    ∙ ap (λ (z : List Exits). around_with f [] [] [] z m k) d
+    ∙ ap (λ (z : Mark). around_with f [] [] [] [] z k) (mark_is m 0 g)
+    ∙ ap (λ (z : Mark). around_with f [] [] [] [] (mark_at 0) z) (mark_is k 0 h)
+
+-- nothing is begun
+pub parts_new : (p : Pool) (os : List Operand) (ds : List Bool) (near near' : Around) → Begins p → p.failed ≡ false → os ≡ [] → ds ≡ [] → near ≡ near' → PartsTell p (opened p) os 0 ds near (empty near')
+parts_new p os ds near near' b l e f n = record {
+  first = (b.1 p (itself p l)).1;
+  lines = subst (λ (o : Opened). LinesAre p (reverse o.lines) []) (sym b.0) no_line;
+  items = subst (λ (o : Opened). ItemsAre p (reverse o.rest) []) (sym b.0) no_item;
+  arms = subst (λ (o : Opened). ArmsAre p (reverse o.arms) []) (sym b.0) no_arm;
+  stack = subst (λ (zs : List Operand). ValuesAre p (reverse zs) []) (sym e) no_values;
+  temps_are = refl;
+  declared_are = f;
+  around_is = n;
+}
+
+-- ---- `&&` and `||`
+
+pub joins_shown : {p : Pool} {x : Node} {t : Expr} → Shows p x t → joins x ≡ is_joined t
+joins_shown rule.number = refl
+joins_shown (rule.string h) = refl
+joins_shown rule.boolean = refl
+joins_shown rule.null = refl
+joins_shown rule.name = refl
+joins_shown (rule.unary a) = refl
+joins_shown (rule.binary a b) = refl
+joins_shown (rule.both a b) = refl
+joins_shown (rule.either a b) = refl
+joins_shown (rule.choice a b c) = refl
+joins_shown (rule.call a l) = refl
+joins_shown (rule.index a b) = refl
+joins_shown (rule.length_of a) = refl
+joins_shown (rule.pop a) = refl
+joins_shown (rule.char_code_at a b) = refl
+joins_shown (rule.substring a b c) = refl
+joins_shown (rule.array l) = refl
+joins_shown rule.dictionary = refl
+joins_shown (rule.decimal_of a) = refl
+joins_shown (rule.from_char_code a) = refl
+
+-- what the only statement of a block sets the temporary of a place to
+pub only_here : (p : Pool) (x : Name) (a : ExprId) (place : ℕ) (l : Line) → LineIs p (line.Assign x a) l → is_temp (word_of x) place ≡ true → MayStand p (Some a) (only_set place (l ∷ []))
+only_here p x a place l h e =
+    let r : (e : Expr) × Stands p a e × (l ≡ assigns (word_of x) e) = assigned_line p x a l h in
+    subst (λ (k : Line). MayStand p (Some a) (only_set place (k ∷ []))) (sym r.2) (subst (λ (z : Option Expr). MayStand p (Some a) z) (if_true (is_temp (word_of x) place) (Some r.0) None e) (stands_some r.1))
+
+pub only_elsewhere : (p : Pool) (x : Name) (a : ExprId) (place : ℕ) (l : Line) → LineIs p (line.Assign x a) l → is_temp (word_of x) place ≡ false → MayStand p None (only_set place (l ∷ []))
+only_elsewhere p x a place l h e =
+    let r : (e : Expr) × Stands p a e × (l ≡ assigns (word_of x) e) = assigned_line p x a l h in
+    subst (λ (k : Line). MayStand p None (only_set place (k ∷ []))) (sym r.2) (subst (λ (z : Option Expr). MayStand p None z) (if_false (is_temp (word_of x) place) (Some r.0) None e) stands_none)
+
+pub not_assigned : (p : Pool) (x : Stmt) (place : ℕ) (l : Line) → LineIs p x l → ((n : Name) (a : ExprId) → x ≡ line.Assign n a → ⊥) → MayStand p None (only_set place (l ∷ []))
+not_assigned p _ place _ (declared h) n = stands_none
+not_assigned p _ place _ (assigned {x = x} {a = a} h) n = absurd (n x a refl)
+not_assigned p x place _ (said f s) n = stands_none
+
+equal : (m n : ℕ) → nat_eq m n ≡ true → m ≡ n
+equal m n e = grind (arith, nat_tests)
+
+equals : (m n : ℕ) → m ≡ n → nat_eq m n ≡ true
+equals m n e = grind (arith, nat_tests)
+
+pub one_line : (p : Pool) (r : Option ExprId) (place : ℕ) (l : Line) (ls : List Line) (many : ℕ) → many ≡ suc (length ls) → nat_eq many 1 ≡ true → MayStand p r (only_set place (l ∷ [])) → MayStand p r (only_set place (l ∷ ls))
+one_line p r place l ls many e f h =
+    let n : ls ≡ [] = nil_from_length ls (omega (arith, e, equal many 1 f)) in
+    subst (λ (ks : List Line). MayStand p r (only_set place (l ∷ ks))) (sym n) h
+
+longer : (place : ℕ) (l : Line) (ls : List Line) → (suc (length ls) ≡ 1 → ⊥) → only_set place (l ∷ ls) ≡ None
+longer place l [] n = absurd (n refl)
+longer place (declares x e) (k ∷ ks) n = refl
+longer place (assigns x e) (k ∷ ks) n = refl
+longer place (says s) (k ∷ ks) n = refl
+
+pub more_than_one : (p : Pool) (place : ℕ) (l : Line) (ls : List Line) (many : ℕ) → many ≡ suc (length ls) → nat_eq many 1 ≡ false → MayStand p None (only_set place (l ∷ ls))
+more_than_one p place l ls many e n = subst (λ (z : Option Expr). MayStand p None z) (sym (longer place l ls (λ h. true≢false (sym (equals many 1 (e ∙ h)) ∙ n)))) stands_none

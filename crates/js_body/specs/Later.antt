@@ -33,7 +33,7 @@ itself p e = record {
 pub held_later : {A : Type 0} (xs ys zs : List A) (from many : ℕ) → Holds xs ys → HeldAt xs from many zs → HeldAt ys from many zs
 held_later xs ys zs from many k h = record { all = h.all; each = λ i x e. k _ x (h.each i x e) }
 
-grown : (p q : Pool) → Later p q → Grown p q
+pub grown : (p q : Pool) → Later p q → Grown p q
 unfolding Later
 grown p q g = g
 
@@ -119,3 +119,9 @@ says_later g s = says_grown (grown _ _ g) s
 
 pub says_in_later : {p q : Pool} → Later p q → {b : Block} {ss : Stmts} → SaysIn p b ss → SaysIn q b ss
 says_in_later g s = says_in_grown (grown _ _ g) s
+
+pub list_later : {p q : Pool} → Later p q → {l : Span} {ts : Exprs} → StandIn p l ts → StandIn q l ts
+list_later g s = stand_in_grown (grown _ _ g) s
+
+pub cases_later : {p q : Pool} → Later p q → {cs : Cases} {d : Option Block} {ds : script.Cases} → SaysSwitch p cs d ds → SaysSwitch q cs d ds
+cases_later g s = says_switch_grown (grown _ _ g) s

@@ -1,15 +1,23 @@
 -- The body of a function so far, without tables: the statements of its open blocks and the values on the stack, the last one first.
-use Rattle.std.specs.Prelude.{ℕ, zero, suc, ◌+◌, ◌-◌, ◌==◌, ◌&&◌, nat_lt, nat_le, min, List, [], ◌∷◌, ◌++◌, length, replicate, reverse, set, take, get_or, slice_get, Bool, true, false, not, if◌then◌else◌, nat_eq, Option, Some, None, codes, bytes_eq, decimal}
+use Rattle.std.specs.Prelude.{ℕ, ℤ, zero, suc, ◌+◌, ◌-◌, ◌==◌, ◌&&◌, nat_lt, nat_le, min, List, [], ◌∷◌, ◌++◌, length, replicate, reverse, set, take, drop, get_or, slice_get, Bool, true, false, not, if◌then◌else◌, nat_eq, Option, Some, None, codes, bytes_eq, decimal}
 use Rattle.std.specs.List.{list_any}
 use Rattle.js_tree.specs.Script as script
-use Rattle.js_tree.specs.Script.{Expr, Stmts, no_stmts, stmt}
+use Rattle.js_tree.specs.Script.{Expr, Exprs, expr, Stmts, no_stmts, stmt}
 use Rattle.js_pool.specs.Tree as tree
 use Rattle.js_pool.specs.declared.pool.Mark.{Mark}
 use Rattle.go_core.specs.declared.statement.Label.{Label}
 use Rattle.go_core.specs.declared.tree.FuncId.{FuncId}
+use Rattle.go_core.specs.declared.node.VarId.{VarId}
+use Rattle.go_type.specs.declared.types.TypeId.{TypeId}
+use Rattle.js_facts.specs.declared.facts.Facts.{Facts}
+use Rattle.js_facts.specs.declared.facts.VarFact.{VarFact}
+use Rattle.gj_base.specs.declared.kind.Kind.{Kind}
+use Rattle.js_tree.specs.declared.tree.BinaryOp.TheVariants.{Same, Different, GreaterEqual, ShiftRightUnsigned}
+use Rattle.js_facts.specs.Held.{How, truth, text, small, wide, how_held, is_block, is_signed, is_wide}
+use Rattle.js_facts.specs.Vars.{var_fact}
 use Rattle.js_body.specs.declared.body.Exits.{Exits}
 use Rattle.js_body.specs.declared.body.Home.{Home}
-use Rattle.js_body.specs.declared.slices.Slices.{Slices}
+use Rattle.js_body.specs.declared.slices.Noted.{Noted}
 use Rattle.js_body.specs.declared.body.Known.{Known}
 use Rattle.js_body.specs.declared.body.Known.TheVariants as known
 
@@ -38,13 +46,19 @@ abbrev pub block_tree : List Line → Stmts → Stmts
 block_tree [] ss = ss
 block_tree (l ∷ ls) ss = block_tree ls (stmt (line_tree l) ss)
 
+-- the expressions of a list, of which these are the last ones, before others
+abbrev pub list_tree : List Expr → Exprs → Exprs
+list_tree [] ts = ts
+list_tree (u ∷ us) ts = list_tree us (expr u ts)
+
 -- a value on the stack, with what is known of it before the script runs
 pub record Value : Type 0 where
   pub tree : Expr
   pub known : Known
 
--- what a body knows besides: its function, slots of variables, labels
+-- what a body knows besides: facts, its function, slots of variables, slices that are to be opened before a loop, labels
 pub record Around : Type 0 where
+  pub facts : Facts
   pub plain : Bool
   pub func : Option FuncId
   pub slots : List ℕ
@@ -52,7 +66,7 @@ pub record Around : Type 0 where
   pub defers : Bool
   pub mentions_results : Bool
   pub loops : ℕ
-  pub slices : Slices
+  pub opened : List Noted
   pub exits : List Exits
   pub next_case : ℕ
   pub next_slot : ℕ
@@ -61,9 +75,21 @@ pub record Around : Type 0 where
   pub first_case : Mark
   pub adapters : ℕ
 
--- the statements and the values have the last one first
+-- a case of a `switch`
+pub record Arm : Type 0 where
+  pub number : ℕ
+  pub body : Stmts
+
+-- the cases of a `switch`, of which these are the last ones, before others
+abbrev pub cases_tree : List Arm → script.Cases → script.Cases
+cases_tree [] ds = ds
+cases_tree (a ∷ bs) ds = cases_tree bs (script.case a.number a.body ds)
+
+-- all but the number of temporaries has the last one first; the expressions and the cases are those of lists that are open
 pub record State : Type 0 where
   pub lines : List Line
+  pub items : List Expr
+  pub arms : List Arm
   pub stack : List Value
   pub temps : ℕ
   pub declared : List Bool
@@ -71,6 +97,73 @@ pub record State : Type 0 where
 
 abbrev pub with_lines_of : List Line → State → State
 with_lines_of ls s = record s { lines = ls }
+
+-- the statements since a mark, and a state without them
+abbrev pub lines_since : ℕ → State → List Line
+lines_since mark s = take (length s.lines - mark) s.lines
+
+abbrev pub cut_to : ℕ → State → State
+cut_to mark s = with_lines_of (drop (length s.lines - mark) s.lines) s
+
+abbrev pub with_items_of : List Expr → State → State
+with_items_of ts s = record s { items = ts }
+
+abbrev pub with_item : Expr → State → State
+with_item t s = record s { items = t ∷ s.items }
+
+abbrev pub with_arm : Arm → State → State
+with_arm a s = record s { arms = a ∷ s.arms }
+
+abbrev pub with_arms_of : List Arm → State → State
+with_arms_of cs s = record s { arms = cs }
+
+-- ---- how a body begins
+
+-- nothing is known but what is around
+abbrev pub empty : Around → State
+empty near = record { lines = []; items = []; arms = []; stack = []; temps = 0; declared = []; around = near }
+
+-- no function is begun yet
+abbrev pub no_function : Facts → Around
+no_function f = record {
+  facts = f;
+  plain = false;
+  func = None;
+  slots = [];
+  results = [];
+  defers = false;
+  mentions_results = false;
+  loops = 0;
+  opened = [];
+  exits = [];
+  next_case = 2;
+  next_slot = 8;
+  open_case = 1;
+  open_lines = record { 0 = 0 };
+  first_case = record { 0 = 0 };
+  adapters = 0;
+}
+
+-- a function begins, a plain one or a machine, whose cases begin at a mark
+abbrev pub begun_near : Bool → Mark → Around → Around
+begun_near b m near = record near {
+  plain = b;
+  func = None;
+  results = [];
+  defers = false;
+  mentions_results = false;
+  loops = 0;
+  exits = [];
+  next_case = 2;
+  next_slot = 8;
+  first_case = m;
+}
+
+abbrev pub mark_at : ℕ → Mark
+mark_at n = record { 0 = n }
+
+abbrev pub begun : Bool → State → State
+begun b s = record s { stack = []; temps = 0; declared = []; around = begun_near b (mark_at (length s.arms)) s.around }
 
 -- ---- the stack
 
@@ -100,6 +193,16 @@ pushed_value v s = record s { stack = v ∷ s.stack }
 -- one more value, which is known before the script runs
 abbrev pub pushed_known : Known → Expr → State → State
 pushed_known k t s = pushed_value (record { tree = t; known = k }) s
+
+-- a truth value, `null`, a number of up to 32 bits
+abbrev pub truth_pushed : Bool → State → State
+truth_pushed b s = pushed_known known.Constant (tree.boolean b) s
+
+abbrev pub nil_pushed : State → State
+nil_pushed s = pushed_known known.Nil tree.null s
+
+abbrev pub number_pushed : ℤ → State → State
+number_pushed n s = pushed_known (known.Number n) (tree.whole_tree n) s
 
 -- ---- temporaries: the one with the number of its place on the stack holds a value
 
@@ -195,6 +298,44 @@ taken_by None s = s
 abbrev pub taken : State → State
 taken s = taken_by (just_set s) (popped s)
 
+-- ---- `&&` and `||` of two sides that are one expression each
+
+-- what the temporary of a place is set to by a block that does nothing else
+abbrev pub only_set : ℕ → List Line → Option Expr
+only_set place (assigns x e ∷ []) = if is_temp x place then Some e else None
+only_set place _ = None
+
+abbrev pub is_joined : Expr → Bool
+is_joined (script.both at a b) = true
+is_joined (script.either at a b) = true
+is_joined _ = false
+
+abbrev pub can_join : Expr → Expr → Bool
+can_join t u = not (is_joined t) && not (is_joined u)
+
+abbrev pub joined_tree : Bool → Expr → Expr → Expr
+joined_tree both t u = if both then tree.both t u else tree.either t u
+
+abbrev pub may_join : Option Expr → Option Expr → Bool
+may_join (Some t) (Some u) = can_join t u
+may_join (Some t) None = false
+may_join None z = false
+
+abbrev pub set_joined : ℕ → Bool → Expr → Expr → State → State
+set_joined place both t u s = set_temp place (joined_tree both t u) (unset place s)
+
+abbrev pub sides_joined : ℕ → Bool → Option Expr → Option Expr → State → State
+sides_joined place both (Some t) (Some u) s = if can_join t u then set_joined place both t u s else s
+sides_joined place both (Some t) None s = s
+sides_joined place both None z s = s
+
+-- the last value with what a block of these statements sets it to, where that is all that the block does
+abbrev pub is_join : List Line → State → Bool
+is_join ls s = may_join (just_set s) (only_set (depth s - 1) ls)
+
+abbrev pub joined : Bool → List Line → State → State
+joined both ls s = sides_joined (depth s - 1) both (just_set s) (only_set (depth s - 1) ls) s
+
 -- ---- an operand of a call: no call stands in it
 
 abbrev pub is_operation : Expr → Bool
@@ -278,6 +419,45 @@ panic_tree n = tree.name (codes "$p" ++ decimal n)
 abbrev pub panicked_if : ℕ → Expr → State → State
 panicked_if n t s = with_line (says (script.branch 0 t (block_tree (panic_line (panic_tree n) ∷ []) no_stmts) script.no_else)) s
 
+-- a panic where a value is nil
+abbrev pub nil_refused : Expr → State → State
+nil_refused t s = panicked_if 2 (tree.binary Same t tree.null) s
+
+-- ---- indexes
+
+-- the decimal text of a number
+abbrev pub told_tree : Kind → Expr → Expr
+told_tree k t = if is_wide k then tree.call (tree.name (codes "$str64")) (tree.list2 t (tree.boolean (is_signed k))) else tree.decimal_of t
+
+abbrev pub wide_outside_tree : Expr → Expr → Expr
+wide_outside_tree t u = tree.either (tree.binary Different (tree.index t (tree.number 0)) (tree.number 0)) (tree.binary GreaterEqual (tree.index t (tree.number 1)) u)
+
+abbrev pub signed_outside_tree : Expr → Expr → Expr
+signed_outside_tree t u = tree.binary GreaterEqual (tree.binary ShiftRightUnsigned t (tree.number 0)) u
+
+-- whether an index isn't below a length
+abbrev pub outside_tree : Kind → Expr → Expr → Expr
+outside_tree k t u = if is_wide k then wide_outside_tree t u else (if is_signed k then signed_outside_tree t u else tree.binary GreaterEqual t u)
+
+-- the number that an index is
+abbrev pub within_tree : Kind → Expr → Expr
+within_tree k t = if is_wide k then tree.index t (tree.number 1) else t
+
+abbrev pub index_line : Kind → Expr → Expr → Line
+index_line k t u = says (script.perform 0 (tree.call (tree.name (codes "$index")) (tree.list2 (told_tree k t) u)))
+
+-- the panic of an index that isn't below a length
+abbrev pub index_told : Kind → Expr → Expr → State → State
+index_told k t u s = with_line (index_line k t u) s
+
+-- that panic where a test holds
+abbrev pub index_panicked_if : Kind → Expr → Expr → Expr → State → State
+index_panicked_if k test t u s = with_line (says (script.branch 0 test (block_tree (index_line k t u ∷ []) no_stmts) script.no_else)) s
+
+-- that panic where it isn't
+abbrev pub index_refused : Kind → Expr → Expr → State → State
+index_refused k t u s = index_panicked_if k (outside_tree k t u) t u s
+
 -- ---- numbers of slots, of cases and of labels
 
 abbrev pub with_around : Around → State → State
@@ -295,10 +475,54 @@ next_case s = s.around.next_case
 abbrev pub with_cases : ℕ → State → State
 with_cases n s = with_around (record (s.around) { next_case = min (s.around.next_case + n) 4294967295 }) s
 
+-- ---- frames that call plain functions
+
+-- one for so many arguments is needed
+abbrev pub more_adapters : ℕ → ℕ → ℕ
+more_adapters n adapters = if nat_le adapters n then min (n + 1) 4294967295 else adapters
+
+abbrev pub adapted : ℕ → State → State
+adapted n s = with_around (record (s.around) { adapters = more_adapters n s.around.adapters }) s
+
+-- ---- loops
+
+abbrev pub looped : State → State
+looped s = with_around (record (s.around) { loops = min (s.around.loops + 1) 4294967295 }) s
+
+abbrev pub unlooped : State → State
+unlooped s = with_around (record (s.around) { loops = s.around.loops - 1 }) s
+
 -- ---- the labels around, the innermost one last
 
 abbrev pub entered : Label → ℕ → ℕ → State → State
 entered l after next s = with_around (record (s.around) { exits = s.around.exits ++ record { label = l; after = after; next = next; continued = false } ∷ [] }) s
+
+abbrev pub no_exit : Label → Exits
+no_exit l = record { label = l; after = 0; next = 0; continued = false }
+
+abbrev pub exits_among : Label → List Exits → Exits
+exits_among l [] = no_exit l
+exits_among l (e ∷ es) = if nat_eq e.label.0 l.0 then e else exits_among l es
+
+-- where branches to a label lead
+abbrev pub exits_of : Label → State → Exits
+exits_of l s = exits_among l s.around.exits
+
+-- a branch goes on with the next turn of a label's loop
+abbrev pub gone_on : Label → Exits → Exits
+gone_on l e = if nat_eq e.label.0 l.0 then record e { continued = true } else e
+
+abbrev pub gone_on_at : Label → ℕ → List Exits → List Exits
+gone_on_at l n es = set es n (gone_on l (get_or es n (no_exit l)))
+
+abbrev pub continued_upto : Label → ℕ → State → State
+continued_upto l zero s = s
+continued_upto l (suc n) s =
+    let r = continued_upto l n s in
+    with_around (record (r.around) { exits = gone_on_at l n r.around.exits }) r
+
+abbrev pub continued : Label → State → State
+continued l s = continued_upto l (length s.around.exits) s
 
 abbrev pub was_continued : Option Exits → Bool
 was_continued (Some e) = e.continued
@@ -344,7 +568,24 @@ slot_set n t s =
 abbrev pub slot_begun : ℕ → Expr → State → State
 slot_begun n t s = if s.around.plain then with_line (declares (var_word n) t) s else slot_set n t s
 
+-- ---- types, as the program's table has them
+
+abbrev pub held_type : TypeId → State → How
+held_type t s = how_held s.around.facts.«program».now.types t
+
 -- ---- variables: one that is boxed stands in an array of its own
+
+abbrev pub home_at : VarFact → Bool → ℕ → Home
+home_at f boxed slot = record { ty = f.ty; boxed = boxed; slot = slot }
+
+abbrev pub home_with : VarFact → Bool → ℕ → Home
+home_with f block slot = home_at f (f.boxed && not block) slot
+
+abbrev pub home_near : VarFact → State → Home
+home_near f s = home_with f (is_block (held_type f.ty s)) (get_or s.around.slots f.number 0)
+
+abbrev pub home_of : VarId → State → Home
+home_of v s = home_near (var_fact s.around.facts v) s
 
 -- the value of a variable
 abbrev pub var_tree : Home → State → Expr
@@ -357,3 +598,21 @@ fresh_tree boxed t = if boxed then tree.array (tree.list1 t) else t
 -- a fresh variable with a value
 abbrev pub bound : Home → Expr → State → State
 bound h t s = slot_begun h.slot (fresh_tree h.boxed t) s
+
+-- the zero value of what is no struct or array
+abbrev pub wide_zero_tree : Expr
+wide_zero_tree = tree.array (tree.list2 (tree.number 0) (tree.number 0))
+
+abbrev pub zero_tree : How → Expr
+zero_tree truth = tree.boolean false
+zero_tree text = tree.string []
+zero_tree (small k) = tree.number 0
+zero_tree (wide k) = wide_zero_tree
+zero_tree _ = tree.null
+
+abbrev pub zero_of : TypeId → State → Expr
+zero_of t s = zero_tree (held_type t s)
+
+-- a fresh variable at zero
+abbrev pub var_declared : VarId → State → State
+var_declared v s = bound (home_of v s) (zero_of (home_of v s).ty s) s

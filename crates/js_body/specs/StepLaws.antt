@@ -1,15 +1,17 @@
 -- What a step does to what the parts of a body tell.
 use Rattle.std.proofs.Common.{◌≡◌, ℕ, suc, List, [], ◌∷◌, ◌++◌, reverse, length, Bool, true, false, if◌then◌else◌, refl, sym, ap, ◌∙◌, subst, true≢false}
 use Rattle.std.proofs.lemmas.List.{reverse-append, length-reverse}
+use Rattle.js_tree.specs.Script.{Expr}
 use Rattle.js_pool.specs.Stands.{Stands, Later, Grows, Keeps, Opened, opened}
 use Rattle.js_pool.specs.Says.{AddsLine}
+use Rattle.js_pool.specs.declared.node.Case.{Case}
 use Rattle.js_pool.specs.declared.node.ExprId.{ExprId}
 use Rattle.js_pool.specs.declared.node.Stmt.{Stmt}
 use Rattle.js_pool.specs.declared.pool.Pool.{Pool}
 use Rattle.js_body.specs.declared.body.Operand.{Operand}
-use Rattle.js_body.specs.State.{State, Around, Value, Line, no_value, first_value, rest_of, with_line, pushed_value, last_value, popped}
-use Rattle.js_body.specs.Tells.{PartsTell, LineIs, declared, assigned, said, LinesAre, no_line, more_lines, ValueIs, ValuesAre, no_values, more_values}
-use Rattle.js_body.specs.Later.{itself, stands_later, says_later}
+use Rattle.js_body.specs.State.{State, Around, Arm, Value, Line, no_value, first_value, rest_of, with_line, pushed_value, last_value, popped}
+use Rattle.js_body.specs.Tells.{PartsTell, LineIs, declared, assigned, said, LinesAre, no_line, more_lines, ItemsAre, no_item, more_items, ArmIs, ArmsAre, no_arm, more_arms, ValueIs, ValuesAre, no_values, more_values}
+use Rattle.js_body.specs.Later.{itself, stands_later, says_later, says_in_later}
 
 -- where memory ran out nothing comes later
 pub fails : (p q : Pool) → q.failed ≡ true → Grows p q
@@ -45,11 +47,31 @@ values_later g (more_values h t) = more_values (value_later g h) (values_later g
 pub rev_push : {A : Type 0} (xs ys : List A) (x : A) → ys ≡ xs ++ x ∷ [] → reverse ys ≡ x ∷ reverse xs
 rev_push xs ys x e = ap reverse e ∙ reverse-append xs (x ∷ [])
 
+pub items_later : {p q : Pool} → Later p q → {es : List ExprId} {ts : List Expr} → ItemsAre p es ts → ItemsAre q es ts
+items_later g no_item = no_item
+items_later g (more_items h t) = more_items (stands_later g h) (items_later g t)
+
+arm_later : {p q : Pool} → Later p q → {c : Case} {a : Arm} → ArmIs p c a → ArmIs q c a
+arm_later g h = record { number = h.number; body = says_in_later g h.body }
+
+pub arms_later : {p q : Pool} → Later p q → {cs : List Case} {bs : List Arm} → ArmsAre p cs bs → ArmsAre q cs bs
+arms_later g no_arm = no_arm
+arms_later g (more_arms h t) = more_arms (arm_later g h) (arms_later g t)
+
+-- expressions and cases of open lists that are what they were
+pub items_kept : {p q : Pool} → Later p q → (es fs : List ExprId) (ts : List Expr) → fs ≡ es → ItemsAre p (reverse es) ts → ItemsAre q (reverse fs) ts
+items_kept {p} {q} g es fs ts e h = subst (λ (zs : List ExprId). ItemsAre q (reverse zs) ts) (sym e) (items_later g h)
+
+pub arms_kept : {p q : Pool} → Later p q → (cs ds : List Case) (bs : List Arm) → ds ≡ cs → ArmsAre p (reverse cs) bs → ArmsAre q (reverse ds) bs
+arms_kept {p} {q} g cs ds bs e h = subst (λ (zs : List Case). ArmsAre q (reverse zs) bs) (sym e) (arms_later g h)
+
 module _ (p q : Pool) (os : List Operand) (temps : ℕ) (ds : List Bool) (near : Around) (s : State) where
   pub parts_later : (o : Opened) → Later p q → PartsTell p o os temps ds near s → PartsTell q o os temps ds near s
   parts_later o g t = record {
     first = stands_later g t.first;
     lines = lines_later g t.lines;
+    items = items_later g t.items;
+    arms = arms_later g t.arms;
     stack = values_later g t.stack;
     temps_are = t.temps_are;
     declared_are = t.declared_are;
@@ -69,11 +91,17 @@ module _ (p q : Pool) (os : List Operand) (temps : ℕ) (ds : List Bool) (near :
       record {
         first = stands_later g t.first;
         lines = subst (λ (xs : List Stmt). LinesAre q xs (l ∷ s.lines)) r (more_lines h (lines_later g t.lines));
+        items = items_kept g (opened p).rest (opened q).rest s.items (ap (λ (z : Opened). z.rest) (a.1 q (itself q e))) t.items;
+        arms = arms_kept g (opened p).arms (opened q).arms s.arms (ap (λ (z : Opened). z.arms) (a.1 q (itself q e))) t.arms;
         stack = values_later g t.stack;
         temps_are = t.temps_are;
         declared_are = t.declared_are;
         around_is = t.around_is;
       }
+
+-- one builder after another
+pub keeps_then : (p m q : Pool) → Keeps p m → Keeps m q → Keeps p q
+keeps_then p m q k h = (λ end g. k.0 end (h.0 end g), h.1 ∙ k.1)
 
 -- one more value
 pub parts_value : (p : Pool) (o : Opened) (os xs : List Operand) (temps : ℕ) (ds : List Bool) (near : Around) (s : State) (x : Operand) (v : Value)
@@ -81,6 +109,8 @@ pub parts_value : (p : Pool) (o : Opened) (os xs : List Operand) (temps : ℕ) (
 parts_value p o os xs temps ds near s x v e h t = record {
   first = t.first;
   lines = t.lines;
+  items = t.items;
+  arms = t.arms;
   stack = subst (λ (zs : List Operand). ValuesAre p zs (v ∷ s.stack)) (sym (rev_push os xs x e)) (more_values h t.stack);
   temps_are = t.temps_are;
   declared_are = t.declared_are;
@@ -102,6 +132,8 @@ parts_popped p o os xs temps ds near s x e t =
       record {
         first = t.first;
         lines = t.lines;
+        items = t.items;
+        arms = t.arms;
         stack = h.1;
         temps_are = t.temps_are;
         declared_are = t.declared_are;
@@ -118,6 +150,8 @@ parts_empty p o os xs temps ds near s x e f i k t =
       record {
         first = t.first;
         lines = t.lines;
+        items = t.items;
+        arms = t.arms;
         stack = subst (λ (zs : List Operand). ValuesAre p (reverse zs) (rest_of s.stack)) (sym f) h.1;
         temps_are = t.temps_are;
         declared_are = t.declared_are;

@@ -1,8 +1,9 @@
 //! The state of a translation, for one function after another.
 
-ghost use Rattle.std.specs.Prelude.{◌≡◌};
-ghost use Rattle.js_body.specs.State.{State, next_slot, with_slots, next_case, with_cases, entered, is_continued, left, frame_tree, has_slot, mentioned, slot_tree, slot_read, slot_set, slot_begun};
-ghost use Rattle.js_body.specs.Tells.{Tells, Runs, Runs1, Gives, GivesNumber};
+ghost use Rattle.std.specs.Prelude.{◌≡◌, ◌&&◌, not, get_or};
+ghost use Rattle.js_body.specs.State.{State, empty, no_function, begun, home_of, exits_of, exits_among, gone_on, gone_on_at, continued, next_slot, with_slots, next_case, with_cases, entered, is_continued, left, frame_tree, has_slot, mentioned, slot_tree, slot_read, slot_set, slot_begun};
+ghost use Rattle.js_body.specs.Tells.{Tells, Lasts, Runs, Runs1, Gives, GivesNumber};
+ghost use Rattle.js_pool.specs.Begins.{Begins};
 
 use crate::frame::{BEGINNING, HEAD};
 use crate::slices::Slices;
@@ -12,7 +13,7 @@ use go_core::statement::Label;
 use go_core::tree::FuncId;
 use go_type::TypeTable;
 use go_type::types::TypeId;
-use js_facts::Facts;
+use js_facts::{Facts, VarFact};
 use js_pool::{Cases, ExprId, Mark, Name, Pool};
 
 /// What is known of a value before the script runs.
@@ -96,9 +97,70 @@ fn has_slot(homes: &[Home], n: u32) -> bool
     homes.iter().any(|h| h.slot == n)
 }
 
+// Whether a variable stands in an array of its own: a struct or an array is one.
+fn is_boxed(fact: VarFact, block: bool) -> bool
+    ensures { result ≡ fact.boxed && not block }
+{
+    fact.boxed && !block
+}
+
+// The slot of the variable with a number.
+fn slot_at(slots: &[u32], n: u32) -> u32
+    ensures { result ≡ get_or slots.now n 0 }
+{
+    match slots.get(n as usize) {
+        Some(slot) => *slot,
+        None => 0,
+    }
+}
+
+// Where branches to a label lead, as these labels tell.
+fn exits_among(exits: &[Exits], label: Label) -> Exits
+    ensures { result ≡ exits_among label exits.now }
+{
+    for e in exits {
+        if e.label.0 == label.0 {
+            return *e;
+        }
+    }
+    Exits {
+        label,
+        after: 0,
+        next: 0,
+        continued: false,
+    }
+}
+
+// A branch goes on with the next turn of a label's loop.
+fn gone_on(e: Exits, label: Label) -> Exits
+    ensures { result ≡ gone_on label e }
+{
+    if e.label.0 == label.0 {
+        Exits {
+            label: e.label,
+            after: e.after,
+            next: e.next,
+            continued: true,
+        }
+    } else {
+        e
+    }
+}
+
+// Notes that it does so, where the label at a place is this one.
+fn note_at(exits: &mut Vec<Exits>, i: usize, label: Label)
+    ensures { exits.new.items ≡ gone_on_at label i exits.old.items }
+{
+    if i < exits.len() {
+        exits[i] = gone_on(exits[i], label);
+    }
+}
+
 impl<'p> Body<'p> {
     /// A state with tables and facts, before any function.
-    pub fn new(pool: Pool, facts: Facts<'p>) -> Body<'p> {
+    pub fn new(pool: Pool, facts: Facts<'p>) -> Body<'p>
+        ensures { Begins pool → Lasts result → Tells result (empty (no_function facts.entry)) }
+    {
         let alloc = pool.alloc;
         let open_lines = pool.open();
         let first_case = pool.open_cases();
@@ -127,14 +189,18 @@ impl<'p> Body<'p> {
     }
 
     /// The types.
-    pub fn table(&self) -> &'p TypeTable {
+    pub fn table(&self) -> &'p TypeTable
+        ensures { result.now ≡ self.now.facts.«program».now.types }
+    {
         self.facts.table()
     }
 
     // ---- functions
 
     /// Begins a function without variables.
-    pub fn begin(&mut self, plain: bool) {
+    pub fn begin(&mut self, plain: bool)
+        ensures { Runs self.old self.new (begun plain) }
+    {
         self.plain = plain;
         self.func = None;
         self.results.truncate(0);
@@ -211,16 +277,15 @@ impl<'p> Body<'p> {
     }
 
     /// The home of a variable.
-    pub fn home(&self, v: VarId) -> Home {
+    pub fn home(&self, v: VarId) -> Home
+        ensures { (s : State) → Tells self.now s → result ≡ home_of v s }
+    {
         let fact = self.facts.var(v);
-        let slot = match self.slots.get(fact.number as usize) {
-            Some(n) => *n,
-            None => 0,
-        };
+        let block = self.is_block(fact.ty);
         Home {
             ty: fact.ty,
-            boxed: fact.boxed && !self.is_block(fact.ty),
-            slot,
+            boxed: is_boxed(fact, block),
+            slot: slot_at(self.slots.as_slice(), fact.number),
         }
     }
 
@@ -306,18 +371,10 @@ impl<'p> Body<'p> {
     // ---- labels
 
     /// Where branches to a label lead.
-    pub fn exits_of(&self, label: Label) -> Exits {
-        for e in self.exits.as_slice() {
-            if e.label == label {
-                return *e;
-            }
-        }
-        Exits {
-            label,
-            after: 0,
-            next: 0,
-            continued: false,
-        }
+    pub fn exits_of(&self, label: Label) -> Exits
+        ensures { (s : State) → Tells self.now s → result ≡ exits_of label s }
+    {
+        exits_among(self.exits.as_slice(), label)
     }
 
     /// Branches to a label lead here from now on.
@@ -337,12 +394,11 @@ impl<'p> Body<'p> {
     }
 
     /// Notes that a branch goes on with the next turn of a label's loop.
-    pub fn note_continued(&mut self, label: Label) {
+    pub fn note_continued(&mut self, label: Label)
+        ensures { Runs self.old self.new (continued label) }
+    {
         for i in 0..self.exits.len() {
-            if self.exits[i].label == label {
-                let exits = &mut self.exits[i];
-                exits.continued = true;
-            }
+            note_at(&mut self.exits, i, label);
         }
     }
 

@@ -1,12 +1,66 @@
 //! Run-time panics: the values `$p1` to `$p12` stand at the script's top, and `$panic` throws one.
 
-ghost use Rattle.js_body.specs.State.{panicked, panicked_if, panic_tree};
-ghost use Rattle.js_body.specs.Tells.{Runs, Runs1};
+ghost use Rattle.js_pool.specs.Stands.{Builds1, Builds2};
+ghost use Rattle.js_body.specs.State.{panicked, panicked_if, panic_tree, nil_refused, told_tree, wide_outside_tree, signed_outside_tree, outside_tree, within_tree, index_told, index_panicked_if, index_refused};
+ghost use Rattle.js_body.specs.Tells.{Runs, Runs1, Runs2, Runs3, Gives1, Gives2};
 
 use crate::body::{Body, Operand};
 use gj_base::Kind;
 use js_facts::held::{is_signed, is_wide};
-use js_pool::{Block, ExprId};
+use js_pool::{ExprId, Pool};
+
+// The decimal text of a number.
+fn told(p: &mut Pool, kind: Kind, e: ExprId) -> ExprId
+    ensures { Builds1 p.old p.new result e (told_tree kind) }
+{
+    if is_wide(kind) {
+        let sign = p.truth(is_signed(kind));
+        return p.call2(b"$str64", e, sign);
+    }
+    p.decimal(e)
+}
+
+fn wide_outside(p: &mut Pool, i: ExprId, n: ExprId) -> ExprId
+    ensures { Builds2 p.old p.new result i n wide_outside_tree }
+{
+    let none = p.num(0);
+    let high = p.at(i, 0);
+    let high = p.different(high, none);
+    let low = p.at(i, 1);
+    let low = p.greater_equal(low, n);
+    p.either(high, low)
+}
+
+fn signed_outside(p: &mut Pool, i: ExprId, n: ExprId) -> ExprId
+    ensures { Builds2 p.old p.new result i n signed_outside_tree }
+{
+    let none = p.num(0);
+    let i = p.shift_right_unsigned(i, none);
+    p.greater_equal(i, n)
+}
+
+// Whether an index isn't below a length.
+fn is_outside(p: &mut Pool, kind: Kind, i: ExprId, n: ExprId) -> ExprId
+    ensures { Builds2 p.old p.new result i n (outside_tree kind) }
+{
+    if is_wide(kind) {
+        return wide_outside(p, i, n);
+    }
+    if is_signed(kind) {
+        return signed_outside(p, i, n);
+    }
+    p.greater_equal(i, n)
+}
+
+// The number that an index is, which is below a length.
+fn inside(p: &mut Pool, kind: Kind, i: ExprId) -> ExprId
+    ensures { Builds1 p.old p.new result i (within_tree kind) }
+{
+    if is_wide(kind) {
+        return p.at(i, 1);
+    }
+    i
+}
 
 impl<'p> Body<'p> {
     /// Throws a value as a panic.
@@ -36,61 +90,52 @@ impl<'p> Body<'p> {
     }
 
     /// A panic where a pointer, a function or an interface value is nil.
-    pub fn refuse_nil(&mut self, o: Operand) {
+    pub fn refuse_nil(&mut self, o: Operand)
+        ensures { Runs1 self.old self.new o.e nil_refused }
+    {
         let null = self.pool.null();
         let test = self.pool.same(o.e, null);
         self.panic_if(test, 2);
     }
 
     // The panic of an index that isn't below a length.
-    fn index_panic(&mut self, kind: Kind, i: ExprId, n: ExprId) -> Block {
-        let told = self.told(kind, i);
-        let mark = self.pool.open();
+    fn index_panic(&mut self, kind: Kind, i: ExprId, n: ExprId)
+        ensures { Runs2 self.old self.new i n (index_told kind) }
+    {
+        let told = told(&mut self.pool, kind, i);
         let call = self.pool.call2(b"$index", told, n);
         self.pool.perform(call);
-        self.pool.close(mark)
     }
 
     /// The decimal text of a number.
-    pub fn told(&mut self, kind: Kind, e: ExprId) -> ExprId {
-        if is_wide(kind) {
-            let sign = self.pool.truth(is_signed(kind));
-            return self.pool.call2(b"$str64", e, sign);
-        }
-        self.pool.decimal(e)
+    pub fn told(&mut self, kind: Kind, e: ExprId) -> ExprId
+        ensures { Gives1 self.old self.new e result (λ t s. told_tree kind t) (λ t s. s) }
+    {
+        told(&mut self.pool, kind, e)
     }
 
     /// A panic where a test holds that an index isn't below a length.
-    pub fn index_panic_if(&mut self, test: ExprId, kind: Kind, i: ExprId, n: ExprId) {
-        let block = self.index_panic(kind, i, n);
+    pub fn index_panic_if(&mut self, test: ExprId, kind: Kind, i: ExprId, n: ExprId)
+        ensures { Runs3 self.old self.new test i n (index_panicked_if kind) }
+    {
+        let mark = self.pool.open();
+        self.index_panic(kind, i, n);
+        let block = self.pool.close(mark);
         self.pool.when(test, block);
     }
 
-    // Whether an index isn't below a length.
-    fn is_outside(&mut self, kind: Kind, i: ExprId, n: ExprId) -> ExprId {
-        if is_wide(kind) {
-            let none = self.pool.num(0);
-            let high = self.pool.at(i, 0);
-            let high = self.pool.different(high, none);
-            let low = self.pool.at(i, 1);
-            let low = self.pool.greater_equal(low, n);
-            return self.pool.either(high, low);
-        }
-        if is_signed(kind) {
-            let none = self.pool.num(0);
-            let i = self.pool.shift_right_unsigned(i, none);
-            return self.pool.greater_equal(i, n);
-        }
-        self.pool.greater_equal(i, n)
+    fn refuse_outside(&mut self, kind: Kind, i: ExprId, n: ExprId)
+        ensures { Runs2 self.old self.new i n (index_refused kind) }
+    {
+        let test = is_outside(&mut self.pool, kind, i, n);
+        self.index_panic_if(test, kind, i, n);
     }
 
     /// Panics where an index isn't below a length, and gives the number that it is.
-    pub fn within(&mut self, kind: Kind, i: Operand, n: ExprId) -> ExprId {
-        let test = self.is_outside(kind, i.e, n);
-        self.index_panic_if(test, kind, i.e, n);
-        if is_wide(kind) {
-            return self.pool.at(i.e, 1);
-        }
-        i.e
+    pub fn within(&mut self, kind: Kind, i: Operand, n: ExprId) -> ExprId
+        ensures { Gives2 self.old self.new i.e n result (λ t u s. within_tree kind t) (λ t u s. index_refused kind t u s) }
+    {
+        self.refuse_outside(kind, i.e, n);
+        inside(&mut self.pool, kind, i.e)
     }
 }

@@ -1,11 +1,11 @@
 //! Values on the stack, and the temporaries that hold them.
 
-ghost use Rattle.std.specs.Prelude.{◌≡◌, ◌+◌, ◌-◌, ◌++◌, ◌<◌, true, false, length, get_or, set, replicate, reverse, List, ◌∷◌};
+ghost use Rattle.std.specs.Prelude.{◌≡◌, ◌+◌, ◌-◌, ◌++◌, ◌<◌, true, false, length, get_or, set, replicate, reverse, List, [], ◌∷◌, Some, suc, nat_eq};
 ghost use Rattle.js_tree.specs.Script.{Expr};
 ghost use Rattle.js_pool.specs.declared.pool.Pool.{Pool};
-ghost use Rattle.js_pool.specs.Stands.{Stands};
-ghost use Rattle.js_body.specs.State.{State, Line, temp_number, temp_tree, marked, with_declared, with_temp, set_temp, set_name, is_first, pushed, pushed_known, pushed_operand, last_value, popped, is_temporary, is_temp, set_by, just_set, set_last, unset, taken_tree, taken, operand_tree, operand_taken, is_operation, is_variable, settled, constant_settled, variables_settled, settled_at, depth, scratched, value_at, dropped_to, set_value};
-ghost use Rattle.js_body.specs.Tells.{Tells, Runs, Runs1, Gives, Gives1, GivesValue, PutsValue, ValueIs, LineIs, MayStand, LinesAre, DropsLine, is_declaration, does_operation, word_of};
+ghost use Rattle.js_pool.specs.Stands.{Stands, Builds2};
+ghost use Rattle.js_body.specs.State.{State, Line, temp_number, temp_tree, marked, with_declared, with_temp, set_temp, set_name, is_first, pushed, pushed_known, pushed_operand, last_value, popped, is_temporary, is_temp, set_by, just_set, set_last, unset, taken_tree, taken, only_set, is_joined, can_join, may_join, joined_tree, set_joined, sides_joined, is_join, joined, more_adapters, adapted, operand_tree, operand_taken, is_operation, is_variable, settled, constant_settled, variables_settled, settled_at, depth, scratched, value_at, dropped_to, set_value};
+ghost use Rattle.js_body.specs.Tells.{Tells, Runs, Runs1, Runs2, RunsBlock, RunsBlock1, Decides2, BlockIs, joins, Gives, Gives1, GivesValue, PutsValue, ValueIs, LineIs, MayStand, LinesAre, DropsLine, is_declaration, does_operation, word_of};
 
 use crate::body::{Body, Known, Operand};
 use js_pool::{Block, ExprId, Name, Node, Pool, Stmt};
@@ -124,6 +124,73 @@ fn does_operation(node: Node) -> bool
     match node {
         Node::Unary(_, _) | Node::Binary(_, _, _) | Node::Index(_, _) | Node::Length(_) => true,
         _ => false,
+    }
+}
+
+// What the temporary at a place of the stack is set to by these statements, which do nothing else.
+fn only_set(lines: &[Stmt], place: usize) -> Option<ExprId>
+    ensures { (p : Pool) (ls : List Line) → LinesAre p (reverse lines.now) ls → MayStand p result (only_set place ls) }
+{
+    match lines.last() {
+        Some(line) => only_line(lines.len(), *line, place),
+        None => None,
+    }
+}
+
+// Likewise by the last one of so many.
+fn only_line(many: usize, line: Stmt, place: usize) -> Option<ExprId>
+    ensures { (p : Pool) (l : Line) (ls : List Line) → LineIs p line l → many ≡ suc (length ls) → MayStand p result (only_set place (l ∷ ls)) }
+{
+    if is_one(many) {
+        assigned_to(line, place)
+    } else {
+        None
+    }
+}
+
+fn is_one(n: usize) -> bool
+    ensures { result ≡ nat_eq n 1 }
+{
+    n == 1
+}
+
+fn assigned_to(line: Stmt, place: usize) -> Option<ExprId>
+    ensures { (p : Pool) (l : Line) → LineIs p line l → MayStand p result (only_set place (l ∷ [])) }
+{
+    match line {
+        Stmt::Assign(x, e) => { if is_temp(x, place) { Some(e) } else { None } }
+        _ => None,
+    }
+}
+
+// So many numbers of arguments have adapters, once this one has.
+fn more_of(adapters: u32, arguments: u32) -> u32
+    ensures { result ≡ more_adapters arguments adapters }
+{
+    if adapters <= arguments {
+        arguments.saturating_add(1)
+    } else {
+        adapters
+    }
+}
+
+fn joins(node: Node) -> bool
+    ensures { result ≡ joins node }
+{
+    match node {
+        Node::And(_, _) | Node::Or(_, _) => true,
+        _ => false,
+    }
+}
+
+// Both sides as one expression.
+fn join_of(p: &mut Pool, both: bool, left: ExprId, right: ExprId) -> ExprId
+    ensures { Builds2 p.old p.new result left right (joined_tree both) }
+{
+    if both {
+        p.both(left, right)
+    } else {
+        p.either(left, right)
     }
 }
 
@@ -320,40 +387,64 @@ impl<'p> Body<'p> {
 
     /// Joins the last value with what a block sets it to, where that is all that the block does: then the operator does
     /// what the block would.
-    pub fn join(&mut self, block: Block, both: bool) -> bool {
+    pub fn join(&mut self, block: Block, both: bool) -> bool
+        ensures { RunsBlock self.old self.new block result is_join (joined both) }
+    {
         let place = self.stack.len().saturating_sub(1);
-        let (Some(left), Some(right)) = (self.just_set(), self.only_set(block, place)) else {
-            return false;
-        };
-        if self.is_joined(left) || self.is_joined(right) {
-            return false;
+        match self.just_set() {
+            Some(left) => self.join_left(block, place, left, both),
+            None => false,
         }
-        self.unset(place);
-        let e = if both {
-            self.pool.both(left, right)
+    }
+
+    // Joins a left side with what a block does.
+    fn join_left(&mut self, block: Block, place: usize, left: ExprId, both: bool) -> bool
+        ensures { RunsBlock1 self.old self.new block left result (λ t ls. may_join (Some t) (only_set place ls)) (λ t ls s. sides_joined place both (Some t) (only_set place ls) s) }
+    {
+        match self.only_set(block, place) {
+            Some(right) => self.join_sides(place, left, right, both),
+            None => false,
+        }
+    }
+
+    // Joins two sides, where neither is joined of two.
+    fn join_sides(&mut self, place: usize, left: ExprId, right: ExprId, both: bool) -> bool
+        ensures { Decides2 self.old self.new left right result can_join (λ t u s. sides_joined place both (Some t) (Some u) s) }
+    {
+        if self.can_join(left, right) {
+            self.set_joined(place, left, right, both);
+            true
         } else {
-            self.pool.either(left, right)
-        };
+            false
+        }
+    }
+
+    fn can_join(&self, left: ExprId, right: ExprId) -> bool
+        ensures { (t u : Expr) → Stands self.now.pool left t → Stands self.now.pool right u → result ≡ can_join t u }
+    {
+        !self.is_joined(left) && !self.is_joined(right)
+    }
+
+    fn is_joined(&self, e: ExprId) -> bool
+        ensures { (t : Expr) → Stands self.now.pool e t → result ≡ is_joined t }
+    {
+        joins(self.pool.node(e))
+    }
+
+    // The last statement, which sets the temporary of a place, sets it to both sides joined.
+    fn set_joined(&mut self, place: usize, left: ExprId, right: ExprId, both: bool)
+        ensures { Runs2 self.old self.new left right (set_joined place both) }
+    {
+        self.unset(place);
+        let e = join_of(&mut self.pool, both, left, right);
         self.set_temp(place, e);
-        true
     }
 
     // What the temporary at a place of the stack is set to by a block that does nothing else.
-    fn only_set(&self, block: Block, place: usize) -> Option<ExprId> {
-        match block.of(self.pool.stmts.as_slice()) {
-            [only] => match *only {
-                Stmt::Assign(x, e) if is_temp(x, place) => Some(e),
-                _ => None,
-            },
-            _ => None,
-        }
-    }
-
-    fn is_joined(&self, e: ExprId) -> bool {
-        match self.pool.node(e) {
-            Node::And(_, _) | Node::Or(_, _) => true,
-            _ => false,
-        }
+    fn only_set(&self, block: Block, place: usize) -> Option<ExprId>
+        ensures { (ls : List Line) → BlockIs self.now.pool block ls → MayStand self.now.pool result (only_set place ls) }
+    {
+        only_set(block.of(self.pool.stmts.as_slice()), place)
     }
 
     /// The last value of the stack.
@@ -449,9 +540,9 @@ impl<'p> Body<'p> {
     }
 
     /// A frame that calls a plain function with so many arguments is needed.
-    pub fn need_adapter(&mut self, arguments: u32) {
-        if self.adapters <= arguments {
-            self.adapters = arguments.saturating_add(1);
-        }
+    pub fn need_adapter(&mut self, arguments: u32)
+        ensures { Runs self.old self.new (adapted arguments) }
+    {
+        self.adapters = more_of(self.adapters, arguments);
     }
 }

@@ -1,7 +1,8 @@
 //! Variables: their values, and fresh ones.
 
-ghost use Rattle.js_body.specs.State.{var_tree, fresh_tree, bound, slot_read};
-ghost use Rattle.js_body.specs.Tells.{Runs1, Gives, Gives1};
+ghost use Rattle.js_pool.specs.Stands.{Grows};
+ghost use Rattle.js_body.specs.State.{var_tree, fresh_tree, bound, slot_read, home_of, var_declared};
+ghost use Rattle.js_body.specs.Tells.{Runs1, Gives, Gives1, RunsScalar};
 
 use crate::body::{Body, Home};
 use go_core::node::VarId;
@@ -36,14 +37,18 @@ impl<'p> Body<'p> {
     }
 
     /// A fresh variable at zero.
-    pub fn declare(&mut self, v: VarId) {
+    pub fn declare(&mut self, v: VarId)
+        ensures { RunsScalar self.old self.new (λ s. (home_of v s).ty) (var_declared v) }
+    {
         let h = self.home(v);
         let zero = self.zero(h.ty);
         self.bind(h, zero);
     }
 
     /// Stores in a variable.
-    pub fn set_var(&mut self, h: Home, value: ExprId) {
+    pub fn set_var(&mut self, h: Home, value: ExprId)
+        ensures { Grows self.old.pool self.new.pool }
+    {
         let slot = self.slot(h.slot);
         if self.is_block(h.ty) {
             self.copy_over(slot, value, h.ty);

@@ -6,12 +6,17 @@
 //! interface value, 9 what can't be compared, 10 a struct and 11 an array with the descriptions of their
 //! parts, 12 a blank struct or array.
 
+ghost use Rattle.js_facts.specs.Held.{how};
+ghost use Rattle.js_pool.specs.Stands.{Grows, Builds};
+ghost use Rattle.js_body.specs.State.{zero_tree, wide_zero_tree, zero_of};
+ghost use Rattle.js_body.specs.Tells.{GivesScalar};
+
 use crate::body::Body;
 use gj_base::{Kind, Text};
 use go_type::types::{FieldRow, TypeId};
 use js_facts::Held;
 use js_facts::held::fields;
-use js_pool::{ExprId, Name};
+use js_pool::{ExprId, Name, Pool};
 
 fn tag(held: Held) -> u64 {
     match held {
@@ -29,6 +34,26 @@ fn tag(held: Held) -> u64 {
     }
 }
 
+// The zero value of what is no struct or array.
+fn zero_of(p: &mut Pool, held: Held) -> ExprId
+    ensures { Builds p.old p.new result (zero_tree (how held)) }
+{
+    match held {
+        Held::Truth => p.truth(false),
+        Held::Str => p.text(b""),
+        Held::Small(_) => p.num(0),
+        Held::Wide(_) => wide_zero(p),
+        _ => p.null(),
+    }
+}
+
+fn wide_zero(p: &mut Pool) -> ExprId
+    ensures { Builds p.old p.new result wide_zero_tree }
+{
+    let none = p.num(0);
+    p.pair(none, none)
+}
+
 fn is_blank(name: &Text) -> bool {
     name.as_bytes() == b"_".as_slice()
 }
@@ -41,32 +66,36 @@ impl<'p> Body<'p> {
     }
 
     /// The zero value of a type.
-    pub fn zero(&mut self, t: TypeId) -> ExprId {
-        match self.held(t) {
-            Held::Truth => self.pool.truth(false),
-            Held::Str => self.pool.text(b""),
-            Held::Small(_) => self.pool.num(0),
-            Held::Wide(_) => {
-                let none = self.pool.num(0);
-                self.pool.pair(none, none)
-            }
-            Held::Struct(_) | Held::Array(_, _) => {
-                let x = Name::Numbered(b"$z", self.type_number(t));
-                self.pool.call_of(x, &[])
-            }
-            _ => self.pool.null(),
+    pub fn zero(&mut self, t: TypeId) -> ExprId
+        ensures { GivesScalar self.old self.new t result (zero_of t) }
+    {
+        if self.is_block(t) {
+            return self.zero_block(t);
         }
+        let held = self.held(t);
+        zero_of(&mut self.pool, held)
+    }
+
+    fn zero_block(&mut self, t: TypeId) -> ExprId
+        ensures { Grows self.old.pool self.new.pool }
+    {
+        let x = Name::Numbered(b"$z", self.type_number(t));
+        self.pool.call_of(x, &[])
     }
 
     /// An array of so many zero elements.
-    pub fn zero_elements(&mut self, n: ExprId, of: TypeId) -> ExprId {
+    pub fn zero_elements(&mut self, n: ExprId, of: TypeId) -> ExprId
+        ensures { Grows self.old.pool self.new.pool }
+    {
         let z = self.zero(of);
         let d = self.description(of);
         self.pool.call3(b"$zero", n, z, d)
     }
 
     /// The description of a type.
-    pub fn description(&mut self, t: TypeId) -> ExprId {
+    pub fn description(&mut self, t: TypeId) -> ExprId
+        ensures { Grows self.old.pool self.new.pool }
+    {
         let n = self.type_number(t);
         self.pool.name_of(b"$d", n)
     }

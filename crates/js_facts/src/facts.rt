@@ -1,5 +1,8 @@
 //! What is found in a program.
 
+ghost use Rattle.std.specs.Prelude.{◌≡◌, length};
+ghost use Rattle.js_facts.specs.Vars.{var_number, var_fact};
+
 use crate::held::{methods, underlying};
 use crate::keys::{method_key, row_key};
 use crate::parts::Part;
@@ -180,7 +183,9 @@ impl<'p> Facts<'p> {
         }
     }
 
-    fn var_number(&self, v: VarId) -> u32 {
+    fn var_number(&self, v: VarId) -> u32
+        ensures { result ≡ var_number self.now v }
+    {
         match self.numbers.get(&v.0) {
             Some(n) => *n,
             None => 4294967295,
@@ -188,7 +193,9 @@ impl<'p> Facts<'p> {
     }
 
     /// What is known of a variable.
-    pub fn var(&self, v: VarId) -> VarFact {
+    pub fn var(&self, v: VarId) -> VarFact
+        ensures { result ≡ var_fact self.now v }
+    {
         match self.vars.get(self.var_number(v) as usize) {
             Some(row) => *row,
             None => VarFact {
@@ -206,7 +213,9 @@ impl<'p> Facts<'p> {
 
     // ---- functions
 
-    pub fn table(&self) -> &'p TypeTable {
+    pub fn table(&self) -> &'p TypeTable
+        ensures { result.now ≡ self.now.«program».now.types }
+    {
         &self.program.types
     }
 

@@ -1,5 +1,12 @@
 //! How values of a type are held in the script.
 
+ghost use Rattle.std.specs.Prelude.{◌≡◌, ◌<◌, ◌≤◌, IfSome, IfNone, List};
+ghost use Rattle.go_type.specs.Tree.{Ty};
+ghost use Rattle.go_type.specs.Levels.{level, tree_of};
+ghost use Rattle.go_type.specs.Table.{places, names, size};
+ghost use Rattle.go_type.specs.Underlying.{underlying};
+ghost use Rattle.js_facts.specs.Held.{kind_of, held_int, held_untyped, held_tree, how_held, how, is_block, kind_held, other, is_signed, is_wide};
+
 use gj_base::Kind;
 use go_type::TypeTable;
 use go_type::types::{Basis, FieldRow, GoType, IntName, MethodSpec, Sig, TypeId};
@@ -28,7 +35,9 @@ pub enum Held {
 }
 
 /// The kind of an integer type.
-pub fn kind_of(name: IntName) -> Kind {
+pub fn kind_of(name: IntName) -> Kind
+    ensures { result ≡ kind_of name }
+{
     match name {
         IntName::Int | IntName::Int32 => Kind::I32,
         IntName::Uint | IntName::Uint32 | IntName::Uintptr => Kind::U32,
@@ -41,14 +50,18 @@ pub fn kind_of(name: IntName) -> Kind {
     }
 }
 
-fn held_int(kind: Kind) -> Held {
+fn held_int(kind: Kind) -> Held
+    ensures { how result ≡ held_int kind }
+{
     match kind {
         Kind::I64 | Kind::U64 => Held::Wide(kind),
         _ => Held::Small(kind),
     }
 }
 
-fn held_untyped(basis: Basis) -> Held {
+fn held_untyped(basis: Basis) -> Held
+    ensures { how result ≡ held_untyped basis }
+{
     match basis {
         Basis::Bool => Held::Truth,
         Basis::Str => Held::Str,
@@ -57,7 +70,9 @@ fn held_untyped(basis: Basis) -> Held {
 }
 
 /// Whether numbers of a kind have a sign.
-pub fn is_signed(kind: Kind) -> bool {
+pub fn is_signed(kind: Kind) -> bool
+    ensures { result ≡ is_signed kind }
+{
     match kind {
         Kind::I8 | Kind::I16 | Kind::I32 | Kind::I64 => true,
         Kind::U8 | Kind::U16 | Kind::U32 | Kind::U64 => false,
@@ -65,7 +80,9 @@ pub fn is_signed(kind: Kind) -> bool {
 }
 
 /// Whether a number of a kind is two halves.
-pub fn is_wide(kind: Kind) -> bool {
+pub fn is_wide(kind: Kind) -> bool
+    ensures { result ≡ is_wide kind }
+{
     match kind {
         Kind::I64 | Kind::U64 => true,
         _ => false,
@@ -81,7 +98,10 @@ pub fn underlying(table: &TypeTable, t: TypeId) -> TypeId {
 }
 
 /// One level of the underlying type.
-pub fn level(table: &TypeTable, t: TypeId) -> Option<&GoType> {
+pub fn level(table: &TypeTable, t: TypeId) -> Option<&GoType>
+    ensures some { IfSome result (λ g. (t.0 < size table.now) × (level (places table.now) g.now ≡ underlying (names table.now) (tree_of (places table.now) t))) }
+    ensures none { IfNone result (size table.now ≤ t.0) }
+{
     if t.0 < table.len() {
         return Some(table.get(table.underlying(t)));
     }
@@ -89,19 +109,31 @@ pub fn level(table: &TypeTable, t: TypeId) -> Option<&GoType> {
 }
 
 /// How values of a type are held.
-pub fn held_as(table: &TypeTable, t: TypeId) -> Held {
+pub fn held_as(table: &TypeTable, t: TypeId) -> Held
+    ensures { how result ≡ how_held table.now t }
+{
     match level(table, t) {
-        Some(GoType::Bool) => Held::Truth,
-        Some(GoType::Str) => Held::Str,
-        Some(GoType::Int(name)) => held_int(kind_of(*name)),
-        Some(GoType::Untyped(basis)) => held_untyped(*basis),
-        Some(GoType::Pointer(to)) => held_pointer(table, *to),
-        Some(GoType::Interface(_)) => Held::Interface,
-        Some(GoType::Slice(_)) => Held::Slice,
-        Some(GoType::Map(_, _)) => Held::Map,
-        Some(GoType::Func(_)) => Held::Func,
-        Some(GoType::Struct(fields)) => Held::Struct(counted(fields.as_slice().len())),
-        Some(GoType::Array(n, of)) => Held::Array(*n, *of),
+        Some(g) => held_level(table, g),
+        None => Held::Truth,
+    }
+}
+
+// How values of a type with this level are held.
+fn held_level(table: &TypeTable, g: &GoType) -> Held
+    ensures { how result ≡ held_tree (level (places table.now) g.now) }
+{
+    match g {
+        GoType::Bool => Held::Truth,
+        GoType::Str => Held::Str,
+        GoType::Int(name) => held_int(kind_of(*name)),
+        GoType::Untyped(basis) => held_untyped(*basis),
+        GoType::Pointer(to) => held_pointer(table, *to),
+        GoType::Interface(_) => Held::Interface,
+        GoType::Slice(_) => Held::Slice,
+        GoType::Map(_, _) => Held::Map,
+        GoType::Func(_) => Held::Func,
+        GoType::Struct(fields) => Held::Struct(counted(fields.as_slice().len())),
+        GoType::Array(n, of) => Held::Array(*n, *of),
         _ => Held::Itself,
     }
 }
@@ -110,7 +142,9 @@ fn counted(n: usize) -> u32 {
     if n < 4294967295 { n as u32 } else { 0 }
 }
 
-fn held_pointer(table: &TypeTable, to: TypeId) -> Held {
+fn held_pointer(table: &TypeTable, to: TypeId) -> Held
+    ensures { how result ≡ other }
+{
     if is_block(table, to) {
         return Held::Itself;
     }
@@ -118,9 +152,20 @@ fn held_pointer(table: &TypeTable, to: TypeId) -> Held {
 }
 
 /// Whether values of a type are arrays that are written in place: those of structs and arrays.
-pub fn is_block(table: &TypeTable, t: TypeId) -> bool {
+pub fn is_block(table: &TypeTable, t: TypeId) -> bool
+    ensures { result ≡ is_block (how_held table.now t) }
+{
     match level(table, t) {
-        Some(GoType::Struct(_)) | Some(GoType::Array(_, _)) => true,
+        Some(g) => is_block_level(g),
+        None => false,
+    }
+}
+
+fn is_block_level(g: &GoType) -> bool
+    ensures { (ts : List Ty) → result ≡ is_block (held_tree (level ts g.now)) }
+{
+    match g {
+        GoType::Struct(_) | GoType::Array(_, _) => true,
         _ => false,
     }
 }
@@ -135,7 +180,9 @@ pub fn parts(table: &TypeTable, t: TypeId) -> u32 {
 }
 
 /// The kind of an integer type; `I32` for any other.
-pub fn int_kind(table: &TypeTable, t: TypeId) -> Kind {
+pub fn int_kind(table: &TypeTable, t: TypeId) -> Kind
+    ensures { result ≡ kind_held (how_held table.now t) }
+{
     match held_as(table, t) {
         Held::Small(kind) => kind,
         Held::Wide(kind) => kind,
