@@ -1,6 +1,7 @@
-"""whole_compare.py GOPHERJS FOLDER: runs each program of FOLDER, as whole.py wrote it, by the Go toolchain, and the
-script that `gopherjs build` stores by node and by `gopherjs exec`, and prints where they differ. What the toolchain
-makes of them is kept in the folder; the word `go` in place of the program asks for no more than that."""
+"""whole_compare.py GOPHERJS FOLDER [PLAYER]: runs each program of FOLDER, as whole.py wrote it, by the Go toolchain, the
+script that `gopherjs build` stores by node, and one of four by `gopherjs run` too, and prints where they differ. With
+PLAYER, a built go_player, each is played by Go's meaning as well. What the toolchain makes of them is kept in the
+folder; the word `go` in place of the program asks for no more than that."""
 import os
 import pickle
 import re
@@ -9,6 +10,9 @@ import subprocess
 import sys
 
 SECONDS = 900
+MEMORY = 6 << 20  # KB
+STEPS = '10000000'
+NO_MEMORY, STOPPED = 71, 75
 
 
 def run(words, **more):
@@ -82,6 +86,12 @@ class Toolchain:
         return self.known[name]
 
 
+# A played run: what it prints and how it ends, without its units. It keeps each step, so it may not be long.
+def played(words):
+    code, out, told = run(['sh', '-c', f'ulimit -v {MEMORY}; ulimit -s unlimited; exec "$@"', 'sh'] + words)
+    return ours('time' if code in (STOPPED, NO_MEMORY) else code, out, re.sub(rb'^\d+ units\n', b'', told))
+
+
 # What each program printed while its packages were initialised, and the one that didn't come to its end.
 def beginnings(told):
     begun, now = {}, None
@@ -100,21 +110,31 @@ def beginnings(told):
 class Ours:
     """What we make of the programs: small ones that come to their end by fifties, all others alone."""
 
-    def __init__(self, program, folder):
-        self.program, self.folder, self.wrong, self.built = program, folder, 0, 0
+    def __init__(self, program, folder, player):
+        self.program, self.folder, self.player, self.wrong, self.built, self.long = program, folder, player, 0, 0, 0
 
     def told(self, text):
         self.wrong += 1
         print(text, flush=True)
 
-    # The runner takes ten times the time of node, so it runs one script of four.
+    # The runner takes ten times the time of node, so it runs one program of four.
     def ends(self, where, more=[]):
         code, _, told = run([self.program, 'build', '-o', f'{where}/out.js'] + more + [where])
         if code != 0:
             return [('build', (code, b'', told))]
         self.built += 1
-        kinds = [('node', ['node', f'{where}/out.js']), ('exec', [self.program, 'exec', f'{where}/out.js'])]
-        return [(kind, ours(*run(words))) for kind, words in kinds[:1 + (self.built % 4 == 1)]]
+        ends = [('node', ours(*run(['node', f'{where}/out.js'])))]
+        if self.built % 4 == 1:
+            ends.append(('run', ours(*run([self.program, 'run'] + more + [where]))))
+        return ends + self.played(where, more)
+
+    # By the meaning, but for a run that is too long to be kept.
+    def played(self, where, more):
+        if not self.player:
+            return []
+        end = played([self.player, 'run', '--steps', STEPS] + more + [where])
+        self.long += end[0] == 'time'
+        return [] if end[0] == 'time' else [('played', end)]
 
     def alone(self, name, right):
         where = f'{self.folder}/{name}'
@@ -167,13 +187,13 @@ def main():
     rights = known(folder, names)
     if sys.argv[1] == 'go':
         return
-    we = Ours(program, folder)
+    we = Ours(program, folder, os.path.abspath(sys.argv[3]) if len(sys.argv) > 3 else None)
     many = [x for x, right in rights.items() if right[0] == 0 and os.path.exists(f'{folder}/all/{x}.go')]
     for i in range(0, len(many), 50):
         we.together({x: rights[x] for x in many[i:i + 50]})
     for x in set(rights) - set(many):
         we.alone(x, rights[x])
-    print(f'{len(rights)} programs, {we.wrong} differences, {len(names) - len(rights)} left out')
+    print(f'{len(rights)} programs, {we.wrong} differences, {len(names) - len(rights)} left out; {we.long} times a played run is too long')
     sys.exit(1 if we.wrong else 0)
 
 
