@@ -1,5 +1,5 @@
-"""Rows at the limit of functions: usage rows.py PROGRAM. Each is one file with `main`, so many functions `_` and then a last one; what
-`build` tells of it is compared with what was worked out by hand."""
+"""Rows at the limit of functions: usage rows.py PROGRAM. Each is one file with `main`, so many functions `_` and then a last one, with and
+without a struct beside them; what `build` tells of it is compared with what was worked out by hand."""
 import os
 import subprocess
 import sys
@@ -27,11 +27,15 @@ ROWS = [
 ]
 
 
-def told(program, count, last, after):
+# What the checker of scalar programs leaves to that of the whole profile.
+BESIDE = ("", "; var _ struct{}")
+
+
+def told(program, beside, count, last, after):
     with tempfile.TemporaryDirectory() as folder:
         os.mkdir(f"{folder}/app")
         with open(f"{folder}/app/main.go", "w") as file:
-            file.write("package main\n\nfunc main() { }\n" + "func _() { }\n" * count + last + "\n" + after)
+            file.write(f"package main{beside}\n\nfunc main() {{ }}\n" + "func _() { }\n" * count + last + "\n" + after)
         ran = subprocess.run([program, "build", "app"], cwd=folder, capture_output=True, text=True)
         return (ran.stdout + ran.stderr).strip()
 
@@ -39,12 +43,13 @@ def told(program, count, last, after):
 def main():
     program = os.path.abspath(sys.argv[1])
     failed = 0
-    for name, count, last, after, wanted in ROWS:
-        found = told(program, count, last, after)
-        if found != wanted:
-            failed += 1
-            print(f"{name}: told {found!r}, wanted {wanted!r}")
-    print(f"{len(ROWS) - failed} passed, {failed} failed")
+    for beside in BESIDE:
+        for name, count, last, after, wanted in ROWS:
+            found = told(program, beside, count, last, after)
+            if found != wanted:
+                failed += 1
+                print(f"{name}{beside}: told {found!r}, wanted {wanted!r}")
+    print(f"{len(BESIDE) * len(ROWS) - failed} passed, {failed} failed")
     return failed != 0
 
 

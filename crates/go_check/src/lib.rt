@@ -7,6 +7,7 @@
 pub mod checking;
 pub mod hidden;
 pub mod limits;
+pub mod members;
 pub mod promoted;
 
 pub use checking::check;

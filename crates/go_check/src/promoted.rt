@@ -1,7 +1,8 @@
 //! Wrappers of promoted methods, and the rows of all methods. Go, "Struct types", "Method sets".
 
 use crate::hidden::NOWHERE;
-use gj_base::{NoMemory, Text};
+use crate::members::{OwnMethods, members, own_methods};
+use gj_base::NoMemory;
 use go_check_call::calls::call;
 use go_check_core::MethodSpec;
 use go_check_primary::selectors::selector;
@@ -11,7 +12,6 @@ use go_check_state::{Checker, EMPTY, FuncRow, NO_OBJECT, NONE, NameId, Operand, 
 use go_check_stmt::hold::set_body;
 use go_check_stmt::sides::{one_each, return_sides};
 use go_check_stmt::start::performed;
-use go_type::Methods;
 use go_type::types::{GoType, NamedId, TypeId};
 
 /// The rows of all methods: those that are declared, and those that are promoted.
@@ -22,8 +22,9 @@ pub fn method_rows(c: &mut Checker) -> Result<Vec<MethodSpec>, NoMemory> {
             declared_rows(c, &mut rows, entry)?;
         }
     }
+    let own = own_methods(c)?;
     for number in 0..c.types.len() {
-        promoted_rows(c, &mut rows, TypeId(number))?;
+        promoted_rows(c, &own, &mut rows, TypeId(number))?;
     }
     Ok(rows)
 }
@@ -53,8 +54,8 @@ fn declared_rows(
     Ok(())
 }
 
-// The package by which a name of a named type's package is told apart.
-fn home_of(c: &mut Checker, id: NamedId, name: NameId) -> Result<NameId, NoMemory> {
+/// The package by which a name of a named type's package is told apart.
+pub fn home_of(c: &mut Checker, id: NamedId, name: NameId) -> Result<NameId, NoMemory> {
     if c.is_exported(name) || id.0 >= c.types.name_len() {
         return Ok(EMPTY);
     }
@@ -77,30 +78,13 @@ fn may_promote(c: &Checker, t: TypeId) -> bool {
     false
 }
 
-// Whether a method stands at a place of a method set.
-fn stands_at(set: &Methods, at: usize, name: &Text, package: &Text) -> bool {
-    match set.as_slice().get(at) {
-        Some(spec) => spec.name == *name && spec.package == *package,
-        None => false,
-    }
-}
-
-fn is_declared(
+// A row for each method that embedding promotes. Those of the type itself have theirs.
+fn promoted_rows(
     c: &mut Checker,
+    own: &OwnMethods,
+    rows: &mut Vec<MethodSpec>,
     t: TypeId,
-    name: NameId,
-    package: NameId,
-) -> Result<bool, NoMemory> {
-    let Shape::Named(id) = c.level(t) else {
-        return Ok(false);
-    };
-    if c.declared_method(t, name).is_none() {
-        return Ok(false);
-    }
-    Ok(home_of(c, id, name)? == package)
-}
-
-fn promoted_rows(c: &mut Checker, rows: &mut Vec<MethodSpec>, t: TypeId) -> Result<(), NoMemory> {
+) -> Result<(), NoMemory> {
     if !may_promote(c, t) {
         return Ok(());
     }
@@ -108,19 +92,9 @@ fn promoted_rows(c: &mut Checker, rows: &mut Vec<MethodSpec>, t: TypeId) -> Resu
     if !c.has(pointer) || !c.has(t) {
         return Ok(());
     }
-    let all = c.types.method_set(c.alloc, pointer)?;
-    let own = c.types.method_set(c.alloc, t)?;
-    // Both are sorted, and those of the type itself are among those of the pointer.
-    let mut at = 0usize;
-    for spec in all.as_slice() {
-        let is_own = stands_at(&own, at, &spec.name, &spec.package);
-        if is_own {
-            at = at.saturating_add(1);
-        }
-        let name = c.names.intern(spec.name.as_bytes())?;
-        let package = c.names.intern(spec.package.as_bytes())?;
-        if !is_declared(c, t, name, package)? {
-            let sig = c.sig_type(&spec.sig)?;
+    let members = members(c, own, t)?;
+    for member in members.iter() {
+        if let Some((name, package, sig)) = member.promoted() {
             let func = wrapper(c, pointer, name, package, sig)?;
             let row = MethodSpec {
                 ty: pointer,
@@ -129,7 +103,7 @@ fn promoted_rows(c: &mut Checker, rows: &mut Vec<MethodSpec>, t: TypeId) -> Resu
                 func,
             };
             rows.push(row)?;
-            if is_own {
+            if member.of_value {
                 rows.push(MethodSpec { ty: t, ..row })?;
             }
         }

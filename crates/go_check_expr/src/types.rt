@@ -109,9 +109,9 @@ fn distinct_names(c: &mut Checker, sig: &Sig) -> Result<bool, NoMemory> {
     }
 }
 
-// The types of results, as of parameters.
+/// The types of results, as of parameters.
 #[cycle(operand)]
-fn result_types(
+pub fn result_types(
     c: &mut Checker,
     results: &Results,
 ) -> Result<Option<(Vec<TypeId>, bool)>, NoMemory> {
@@ -128,10 +128,10 @@ fn result_types(
     }
 }
 
-// The types of a parameter list, and whether the last one may have any number of arguments: F53 where it
-// is none, though its types are.
+/// The types of a parameter list, and whether the last one may have any number of arguments: F53 where it
+/// is none, though its types are.
 #[cycle(operand)]
-fn param_types(
+pub fn param_types(
     c: &mut Checker,
     list: &Params,
     may_vary: bool,

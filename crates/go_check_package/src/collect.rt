@@ -40,9 +40,9 @@ fn decl<'a>(c: &mut Checker, u: &mut Units<'a>, d: &'a Decl) -> Result<(), NoMem
             }
             Ok(())
         }
-        DeclForm::Func(None, name, sig, block) => func(c, u, name, sig, block),
+        DeclForm::Func(None, name, sig, block) => func(c, u, d.place, name, sig, block),
         DeclForm::Func(Some(receiver), name, sig, block) => {
-            method(c, u, receiver, name, sig, block)
+            method(c, u, d.place, receiver, name, sig, block)
         }
     }
 }
@@ -282,13 +282,15 @@ fn add_body<'a>(
 fn func<'a>(
     c: &mut Checker,
     u: &mut Units<'a>,
+    place: Place,
     name: &'a Name,
     sig: &'a Sig,
     block: &'a Block,
 ) -> Result<(), NoMemory> {
     let id = c.names.intern(name.text.as_bytes())?;
-    let func = add_body(c, u, id, name.place, None, sig, block)?;
+    let func = add_body(c, u, id, place, None, sig, block)?;
     let unit = next_unit(c)?;
+    let faults = c.faults.len();
     if id == INIT && c.member(c.package, INIT).is_none() {
         let package = c.package;
         c.declare_in(package, INIT, name.place, Entity::Init, None)?;
@@ -303,19 +305,23 @@ fn func<'a>(
     } else {
         add_name(c, u, name, unit, Entity::Unknown, 0)?;
     }
+    if c.faults.len() != faults {
+        c.spoil(func)?;
+    }
     add_unit(c, u, UnitForm::Func(sig), 1, func)
 }
 
 fn method<'a>(
     c: &mut Checker,
     u: &mut Units<'a>,
+    place: Place,
     receiver: &'a Params,
     name: &'a Name,
     sig: &'a Sig,
     block: &'a Block,
 ) -> Result<(), NoMemory> {
     let id = c.names.intern(name.text.as_bytes())?;
-    let func = add_body(c, u, id, name.place, Some(receiver), sig, block)?;
+    let func = add_body(c, u, id, place, Some(receiver), sig, block)?;
     next_unit(c)?;
     u.names.push(UnitName {
         name: id,

@@ -66,7 +66,7 @@ fn visit(
     let faults = c.faults.len();
     if attempt(c, u, unit)? {
         paint(c, unit, Colour::Done);
-        return Ok(());
+        return spoil(c, u, unit, faults);
     }
     let mut pushed = false;
     for number in 0..c.blockers.len() {
@@ -84,6 +84,17 @@ fn visit(
         paint(c, unit, Colour::Stuck);
     }
     Ok(())
+}
+
+// A function whose declaration has a fault has none as a whole.
+fn spoil(c: &mut Checker, u: &Units<'_>, unit: u32, faults: usize) -> Result<(), NoMemory> {
+    match u.rows.get(unit as usize).copied() {
+        Some(row) if c.faults.len() != faults => match row.form {
+            UnitForm::Func(_) | UnitForm::Method(_, _, _) => c.spoil(row.func),
+            _ => Ok(()),
+        },
+        _ => Ok(()),
+    }
 }
 
 // Whether a declaration could be typed. What an attempt added that came too early is taken back, but for

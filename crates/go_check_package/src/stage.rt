@@ -50,6 +50,7 @@ pub fn check(
         let own = files.get(start..end).unwrap_or(&[]);
         package(c, packages, &i, *number, own)?;
     }
+    c.tell_wholes()?;
     c.tell_unused()?;
     Ok(i.edges)
 }

@@ -73,14 +73,14 @@ pub fn small_type(c: &mut Checker, place: Place, t: TypeId) -> Result<TypeId, No
     Ok(t)
 }
 
-/// A map type: F70 at the place of another key. Go, "Map types".
+/// A map type: F70 at the place of another key, where both types are known. Go, "Map types".
 pub fn map_type(
     c: &mut Checker,
     place: Place,
     key: TypeId,
     of: TypeId,
 ) -> Result<TypeId, NoMemory> {
-    if c.has(key) && !c.key_type(key) {
+    if c.has(key) && c.has(of) && !c.key_type(key) {
         c.fault(FaultCode::BadMapKey, place)?;
         return Ok(NONE);
     }
