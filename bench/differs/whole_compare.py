@@ -10,7 +10,7 @@ import subprocess
 import sys
 
 SECONDS = 900
-MEMORY = 6 << 20  # KB
+MEMORY = 2 << 20  # KB
 STEPS = '10000000'
 NO_MEMORY, STOPPED = 71, 75
 

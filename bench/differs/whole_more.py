@@ -402,7 +402,7 @@ class More:
         self.use_kit()
         x, i, j = self.fresh(), self.fresh('i'), self.fresh('i')
         return [f'{x} := {self.odd_text()} + "abcdef"', f'{i}, {j} := {self.expr("int", env, 1)}%9, {self.expr("int8", env, 1)}%9', f'println(risky(func() {{ println({x}[{i}:{j}]) }}), risky(func() {{ println({x}[{j}:]) }}), risky(func() {{ println({x}[:{i}]) }}), risky(func() {{ println({x}[{j}]) }}))',
-                f'{x}s := []byte({x})[:len({x}):len({x})]', f'println(risky(func() {{ println(string({x}s[{i}:{j}])) }}), risky(func() {{ println(len({x}s[{j}:]), cap({x}s[1:2:3])) }}), risky(func() {{ println(len({x}s[:{j}:{i}])) }}), risky(func() {{ println(cap({x}s[{i}:{j}:len({x}s)]) > 0) }}), risky(func() {{ {x}s[{i}] = {x}s[{j}]; println(string({x}s)) }}))',
+                f'{x}s := make([]byte, len({x}))', f'copy({x}s, {x})', f'println(risky(func() {{ println(string({x}s[{i}:{j}])) }}), risky(func() {{ println(len({x}s[{j}:]), cap({x}s[1:2:3])) }}), risky(func() {{ println(len({x}s[:{j}:{i}])) }}), risky(func() {{ println(cap({x}s[{i}:{j}:len({x}s)]) > 0) }}), risky(func() {{ {x}s[{i}] = {x}s[{j}]; println(string({x}s)) }}))',
                 f'println({x}[:0] == "", {x}[len({x}):] == "", {x}[1:][0] == {x}[1], len({x}[1:len({x})-1]))']
 
     # places that are found before a call changes what they stood on

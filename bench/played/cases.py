@@ -14,7 +14,7 @@ import tempfile
 from collections import Counter
 
 SECONDS = 300
-MEMORY = 6 << 20  # KB
+MEMORY = 2 << 20  # KB
 NO_MEMORY, STOPPED = 71, 75
 MOST = '10000000'
 UNUSUAL = {'cuts', 'fails', 'before', 'grow'}
@@ -70,6 +70,8 @@ def left_out(files):
         return 'files or streams that fail, or that grow'
     if files.get('status', b'0').strip() in (b'1', b'64', b'66', b'74'):
         return 'no program'
+    if words[0] == 'build' and 'prints' not in files:
+        return 'nothing says what it prints'
     if '--steps' in words:
         return 'so many steps of a script'
     return None
@@ -81,7 +83,7 @@ def wanted_of(files):
     if words[0] == 'run':
         return words[1:], (int(files.get('status', b'0')), files.get('stdout', b''), files.get('stderr', b''))
     src = words.index('--src') if '--src' in words else len(words)
-    return words[src:src + 2] + words[-1:], (0, files.get('prints', b''), b'')
+    return words[src:src + 2] + [w for w in words if w[:1] != '-'][-1:], (0, files['prints'], b'')
 
 
 def run(words, where):
