@@ -1,21 +1,35 @@
 //! Control: Go specification (as of Go 1.17), "If statements", "For statements", "Switch statements",
 //! "Labeled statements", "Return statements". Each place that a branch leaves has a label `$LN`.
 
+ghost use Rattle.std.specs.Prelude.{◌≡◌, ◌≤◌, length, [], nat_eq};
+ghost use Rattle.js_pool.specs.Names.{name_bytes};
+ghost use Rattle.js_pool.specs.Stands.{Grows};
+ghost use Rattle.js_body.specs.State.{State, temp_tree, depth, with_line, lines_since, cut_to, mark_at, with_cases, looped, continued};
+ghost use Rattle.js_body.specs.Tells.{Tells, Lasts, Runs, Runs1, Gives};
+ghost use Rattle.js_plain.specs.Control.{label_bytes, left_at, left_where, left_unless, closed_at, begins_chain, chain_label, chain_labelled, if_begun, chain_begun, arm_left, said_where, arm_lines, arm_ended, if_line, chain_ended, if_ended, turn_next, turns_begun, loop_begun, turn_begun, block_turn, turn_ended, loop_ended, gone_on_to, branched, chosen_set, counted, choice_begun, choice_said, chosen, default_of, choice_ended, clause_begun, clause_left, clause_ended, clauses_ended, value_returned};
+ghost use Rattle.js_plain.specs.Lines.{RunsSince, GivesThat, GivesSince, RunsArms, ReturnsOne, GivesArm, SaysArm, SaysIf, EndsIf};
+
 use go_core::statement::{BranchKind, Label};
-use js_body::Body;
+use js_body::{Body, Exits};
 use js_pool::{Block, ExprId, Mark, Name};
 
-fn label_name(n: u32) -> Name {
+fn label_name(n: u32) -> Name
+    ensures { name_bytes result ≡ label_bytes n }
+{
     Name::Numbered(b"$L", n)
 }
 
 /// Leaves what has a label.
-pub fn leave_at(b: &mut Body<'_>, n: u32) {
+pub fn leave_at(b: &mut Body<'_>, n: u32)
+    ensures { Runs b.old b.new (left_at n) }
+{
     b.pool.stop_at(label_name(n));
 }
 
 /// Leaves what has a label where a test holds.
-pub fn leave_where(b: &mut Body<'_>, test: ExprId, n: u32) {
+pub fn leave_where(b: &mut Body<'_>, test: ExprId, n: u32)
+    ensures { Runs1 b.old b.new test (left_where n) }
+{
     let mark = b.pool.open();
     leave_at(b, n);
     let block = b.pool.close(mark);
@@ -23,14 +37,18 @@ pub fn leave_where(b: &mut Body<'_>, test: ExprId, n: u32) {
 }
 
 /// Leaves what has a label where the last value doesn't hold.
-pub fn leave_unless(b: &mut Body<'_>, n: u32) {
+pub fn leave_unless(b: &mut Body<'_>, n: u32)
+    ensures { Runs b.old b.new (left_unless n) }
+{
     let c = b.take();
     let test = b.pool.not(c);
     leave_where(b, test, n);
 }
 
 /// The statements since a mark become a block that `break` with this label leaves.
-pub fn close_at(b: &mut Body<'_>, mark: Mark, n: u32) {
+pub fn close_at(b: &mut Body<'_>, mark: Mark, n: u32)
+    ensures { RunsSince b.old b.new mark.0 (closed_at mark.0 n) }
+{
     let block = b.pool.close(mark);
     b.pool.block_at(label_name(n), block);
 }
@@ -48,41 +66,95 @@ pub struct If {
 
 /// Begins an `if`, in the chain within a block or in none. Where another `if` is all that its `else` holds,
 /// both are of a chain.
-pub fn begin_if(b: &mut Body<'_>, around: Option<u32>, goes_on: bool) -> If {
-    let begins = goes_on && around.is_none();
-    let end = if begins { Some(b.fresh(1)) } else { around };
+pub fn begin_if(b: &mut Body<'_>, around: Option<u32>, goes_on: bool) -> If
+    ensures { GivesThat b.old b.new result (if_begun around goes_on) (chain_begun around goes_on) }
+{
+    let begins = begins_chain(around, goes_on);
+    let end = chain_end(b, around, begins);
     let mark = b.pool.open();
     If { end, begins, mark }
 }
 
+fn begins_chain(around: Option<u32>, goes_on: bool) -> bool
+    ensures { result ≡ begins_chain around goes_on }
+{
+    goes_on && around.is_none()
+}
+
+// The label of the block around the chain.
+fn chain_end(b: &mut Body<'_>, around: Option<u32>, begins: bool) -> Option<u32>
+    ensures { GivesThat b.old b.new result (chain_label around begins) (chain_labelled begins) }
+{
+    if begins {
+        let n = b.fresh(1);
+        Some(n)
+    } else {
+        around
+    }
+}
+
 /// Ends the arm of an `if` that begins at a mark.
-pub fn end_arm(b: &mut Body<'_>, c: If, test: ExprId, mark: Mark) -> Block {
-    if let Some(n) = c.end {
-        leave_at(b, n);
-    }
+pub fn end_arm(b: &mut Body<'_>, c: If, test: ExprId, mark: Mark) -> Block
+    ensures { GivesArm b.old b.new test mark.0 result (arm_lines c mark.0) (λ t s. arm_ended c t mark.0 s) }
+{
+    leave_chain(b, c.end);
     let arm = b.pool.close(mark);
-    if c.end.is_some() {
-        b.pool.when(test, arm);
-    }
+    say_where(b, c.end, test, arm);
     arm
 }
 
+fn leave_chain(b: &mut Body<'_>, end: Option<u32>)
+    ensures { Runs b.old b.new (arm_left end) }
+{
+    match end {
+        Some(n) => leave_at(b, n),
+        None => {}
+    }
+}
+
+// What stands in a chain is said where its test holds.
+fn say_where(b: &mut Body<'_>, end: Option<u32>, test: ExprId, arm: Block)
+    ensures { SaysArm b.old b.new test arm (said_where end) }
+{
+    match end {
+        Some(_) => b.pool.when(test, arm),
+        None => {}
+    }
+}
+
 /// Ends an `if`, whose `else` begins at a mark.
-pub fn end_if(b: &mut Body<'_>, c: If, test: ExprId, arm: Block, mark: Mark) {
+pub fn end_if(b: &mut Body<'_>, c: If, test: ExprId, arm: Block, mark: Mark)
+    ensures { EndsIf b.old b.new test arm mark.0 c.mark.0 (λ t ls s. if_ended c t ls mark.0 s) }
+{
     match c.end {
-        Some(n) => {
-            if c.begins {
-                close_at(b, c.mark, n);
-            }
-        }
-        None => {
-            let other = b.pool.close(mark);
-            if other.many == 0 {
-                b.pool.when(test, arm);
-            } else {
-                b.pool.when_else(test, arm, other);
-            }
-        }
+        Some(n) => end_chain(b, c, n),
+        None => say_if(b, test, arm, mark),
+    }
+}
+
+fn end_chain(b: &mut Body<'_>, c: If, n: u32)
+    ensures { RunsSince b.old b.new c.mark.0 (chain_ended c n) }
+{
+    if c.begins {
+        close_at(b, c.mark, n);
+    }
+}
+
+fn is_empty(d: Block) -> bool
+    ensures { result ≡ nat_eq d.many 0 }
+{
+    d.many == 0
+}
+
+// An `if` that is of no chain.
+fn say_if(b: &mut Body<'_>, test: ExprId, arm: Block, mark: Mark)
+    ensures { SaysIf b.old b.new test arm mark.0 (λ t ls s. with_line (if_line t ls (lines_since mark.0 s)) (cut_to mark.0 s)) }
+{
+    let other = b.pool.close(mark);
+    if is_empty(other) {
+        b.pool.when(test, arm);
+    } else {
+        b.pool.when_else(test, arm, other);
     }
 }
 
@@ -97,53 +169,98 @@ pub struct Turns {
 }
 
 /// Begins a loop. Where nothing follows a turn, the next one is gone on with at once.
-pub fn begin_loop(b: &mut Body<'_>, has_post: bool) -> Turns {
+pub fn begin_loop(b: &mut Body<'_>, has_post: bool) -> Turns
+    ensures { GivesThat b.old b.new result (λ s. turns_begun has_post (looped s)) loop_begun }
+{
     b.enter_loop();
     let end = b.fresh(2);
-    Turns {
-        end,
-        next: if has_post { end.saturating_add(1) } else { end },
-        mark: b.pool.open(),
-    }
+    let next = turn_next(has_post, end);
+    let mark = b.pool.open();
+    Turns { end, next, mark }
+}
+
+fn turn_next(has_post: bool, end: u32) -> u32
+    ensures { result ≡ turn_next has_post end }
+{
+    if has_post { end.saturating_add(1) } else { end }
 }
 
 /// Begins the body of a loop.
-pub fn begin_turn(b: &mut Body<'_>, label: Label, l: Turns) -> Mark {
+pub fn begin_turn(b: &mut Body<'_>, label: Label, l: Turns) -> Mark
+    ensures { GivesThat b.old b.new result (λ s. mark_at (length s.lines)) (turn_begun label l) }
+{
     b.enter_label(label, l.end, l.next);
     b.pool.open()
 }
 
 /// Ends the body of a loop: what follows a turn comes next.
-pub fn end_turn(b: &mut Body<'_>, l: Turns, mark: Mark) {
-    let continued = b.is_continued();
+pub fn end_turn(b: &mut Body<'_>, l: Turns, mark: Mark)
+    ensures { RunsSince b.old b.new mark.0 (turn_ended l mark.0) }
+{
+    let block = is_block_turn(l, b.is_continued());
     b.leave_label();
-    if continued && l.next != l.end {
-        return close_at(b, mark, l.next);
+    if block {
+        close_at(b, mark, l.next);
+    } else {
+        join_turn(b, mark);
     }
+}
+
+fn is_block_turn(l: Turns, continued: bool) -> bool
+    ensures { result ≡ block_turn l continued }
+{
+    continued && l.next != l.end
+}
+
+// What a turn does stands where it is.
+fn join_turn(b: &mut Body<'_>, mark: Mark)
+    ensures { RunsSince b.old b.new mark.0 (λ s. s) }
+{
     let block = b.pool.close(mark);
     b.pool.include(block);
 }
 
 /// Ends a loop; the slices that are opened before it are opened here.
-pub fn end_loop(b: &mut Body<'_>, l: Turns) {
+pub fn end_loop(b: &mut Body<'_>, l: Turns)
+    ensures { Grows b.old.pool b.new.pool × (Lasts b.new → (s : State) → Tells b.old s → l.mark.0 ≤ length s.lines → s.around.opened ≡ [] → Tells b.new (loop_ended l s)) }
+{
     let block = b.pool.close(l.mark);
     b.leave_loop();
     b.pool.forever_at(label_name(l.end), block);
 }
 
 /// A branch to a label.
-pub fn branch(b: &mut Body<'_>, kind: BranchKind, label: Label) {
+pub fn branch(b: &mut Body<'_>, kind: BranchKind, label: Label)
+    ensures { Runs b.old b.new (branched kind label) }
+{
     let exits = b.exits_of(label);
     match kind {
         BranchKind::Break => leave_at(b, exits.after),
-        BranchKind::Continue => {
-            b.note_continued(label);
-            if exits.next == exits.after {
-                b.pool.again_at(label_name(exits.after));
-            } else {
-                leave_at(b, exits.next);
-            }
-        }
+        BranchKind::Continue => go_on(b, label, exits),
+    }
+}
+
+fn go_on(b: &mut Body<'_>, label: Label, exits: Exits)
+    ensures { Runs b.old b.new (λ s. gone_on_to exits (continued label s)) }
+{
+    b.note_continued(label);
+    say_again(b, exits);
+}
+
+fn is_next(exits: Exits) -> bool
+    ensures { result ≡ nat_eq exits.next exits.after }
+{
+    exits.next == exits.after
+}
+
+// The next turn is gone on with at once where nothing follows a turn.
+fn say_again(b: &mut Body<'_>, exits: Exits)
+    ensures { Runs b.old b.new (gone_on_to exits) }
+{
+    if is_next(exits) {
+        b.pool.again_at(label_name(exits.after));
+    } else {
+        leave_at(b, exits.next);
     }
 }
 
@@ -160,62 +277,101 @@ pub struct Clauses {
 }
 
 /// Begins the choice among so many clauses.
-pub fn begin_choice(b: &mut Body<'_>, many: usize) -> Clauses {
+pub fn begin_choice(b: &mut Body<'_>, many: usize) -> Clauses
+    ensures { GivesThat b.old b.new result (choice_begun many) (with_cases 2) }
+{
     let chosen = b.fresh(2);
+    let end = chosen.saturating_add(1);
+    let many = counted(many);
+    let mark = b.pool.open();
     Clauses {
         chosen,
-        end: chosen.saturating_add(1),
-        many: if many < 4294967295 { many as u32 } else { 0 },
-        mark: b.pool.open(),
+        end,
+        many,
+        mark,
     }
 }
 
+fn counted(many: usize) -> u32
+    ensures { result ≡ counted many }
+{
+    if many < 4294967295 { many as u32 } else { 0 }
+}
+
 // The number of the chosen clause stands in the first temporary.
-fn set_chosen(b: &mut Body<'_>, n: u32) {
+fn set_chosen(b: &mut Body<'_>, n: u32) -> ExprId
+    ensures { Gives b.old b.new result (λ s. temp_tree (depth s)) (chosen_set n) }
+{
     let e = b.pool.num(n as u64);
-    b.scratch(e);
+    b.scratch(e)
 }
 
 /// Chooses a clause where the last value holds.
-pub fn choose(b: &mut Body<'_>, c: Clauses, n: u32) {
+pub fn choose(b: &mut Body<'_>, c: Clauses, n: u32)
+    ensures { Runs b.old b.new (chosen c n) }
+{
     let x = b.take();
     let mark = b.pool.open();
-    set_chosen(b, n);
-    leave_at(b, c.chosen);
+    say_choice(b, c, n);
     let block = b.pool.close(mark);
     b.pool.when(x, block);
 }
 
+fn say_choice(b: &mut Body<'_>, c: Clauses, n: u32)
+    ensures { Runs b.old b.new (choice_said c n) }
+{
+    set_chosen(b, n);
+    leave_at(b, c.chosen);
+}
+
 /// Ends the choice, with the default where nothing was chosen; gives the number of the chosen clause.
-pub fn end_choice(b: &mut Body<'_>, c: Clauses, default: Option<u32>) -> ExprId {
-    let n = match default {
-        Some(n) => n,
-        None => c.many,
-    };
-    let e = b.pool.num(n as u64);
-    let tag = b.scratch(e);
+pub fn end_choice(b: &mut Body<'_>, c: Clauses, default: Option<u32>) -> ExprId
+    ensures { GivesSince b.old b.new c.mark.0 result (λ s. temp_tree (depth s)) (choice_ended c (default_of default c.many)) }
+{
+    let tag = set_chosen(b, default_of(default, c.many));
     close_at(b, c.mark, c.chosen);
     tag
 }
 
+fn default_of(default: Option<u32>, many: u32) -> u32
+    ensures { result ≡ default_of default many }
+{
+    match default {
+        Some(n) => n,
+        None => many,
+    }
+}
+
 /// Begins a clause.
-pub fn begin_clause(b: &mut Body<'_>, c: Clauses, label: Label) -> Mark {
+pub fn begin_clause(b: &mut Body<'_>, c: Clauses, label: Label) -> Mark
+    ensures { GivesThat b.old b.new result (λ s. mark_at (length s.lines)) (clause_begun c label) }
+{
     b.enter_label(label, c.end, c.end);
     b.pool.open()
 }
 
 /// Ends a clause with this number.
-pub fn end_clause(b: &mut Body<'_>, c: Clauses, n: u32, falls_through: bool, mark: Mark) {
-    b.leave_label();
-    if !falls_through {
-        leave_at(b, c.end);
-    }
+pub fn end_clause(b: &mut Body<'_>, c: Clauses, n: u32, falls_through: bool, mark: Mark)
+    ensures { RunsSince b.old b.new mark.0 (clause_ended c n falls_through mark.0) }
+{
+    leave_clause(b, c, falls_through);
     let block = b.pool.close(mark);
     b.pool.case(n, block);
 }
 
+fn leave_clause(b: &mut Body<'_>, c: Clauses, falls_through: bool)
+    ensures { Runs b.old b.new (clause_left c falls_through) }
+{
+    b.leave_label();
+    if !falls_through {
+        leave_at(b, c.end);
+    }
+}
+
 /// Ends all clauses, whose cases begin at a mark.
-pub fn end_clauses(b: &mut Body<'_>, c: Clauses, tag: ExprId, cases: Mark) {
+pub fn end_clauses(b: &mut Body<'_>, c: Clauses, tag: ExprId, cases: Mark)
+    ensures { RunsArms b.old b.new tag cases.0 (clauses_ended c cases.0) }
+{
     let cases = b.pool.close_cases(cases);
     b.pool.switch_at(label_name(c.end), tag, cases);
 }
@@ -223,14 +379,42 @@ pub fn end_clauses(b: &mut Body<'_>, c: Clauses, tag: ExprId, cases: Mark) {
 // ---- the end
 
 /// A return of the values on the stack; of the results as they stand where there are none.
-pub fn return_values(b: &mut Body<'_>) {
+pub fn return_values(b: &mut Body<'_>)
+    ensures { ReturnsOne b.old b.new }
+{
+    if is_one(b.depth()) {
+        return_one(b);
+    } else {
+        return_others(b);
+    }
+}
+
+fn is_one(n: usize) -> bool
+    ensures { result ≡ nat_eq n 1 }
+{
+    n == 1
+}
+
+fn return_one(b: &mut Body<'_>)
+    ensures { Runs b.old b.new value_returned }
+{
+    let e = b.take();
+    b.pool.give(e);
+}
+
+fn return_others(b: &mut Body<'_>)
+    ensures { Grows b.old.pool b.new.pool }
+{
     if b.depth() == 0 {
-        return return_results(b);
+        return_results(b);
+    } else {
+        return_several(b);
     }
-    if b.depth() == 1 {
-        let e = b.take();
-        return b.pool.give(e);
-    }
+}
+
+fn return_several(b: &mut Body<'_>)
+    ensures { Grows b.old.pool b.new.pool }
+{
     let mark = b.pool.open_list();
     for i in 0..b.depth() {
         let o = b.value_at(i);
@@ -241,7 +425,9 @@ pub fn return_values(b: &mut Body<'_>) {
     give(b, mark, many);
 }
 
-fn return_results(b: &mut Body<'_>) {
+fn return_results(b: &mut Body<'_>)
+    ensures { Grows b.old.pool b.new.pool }
+{
     let many = b.results.len();
     let mark = b.pool.open_list();
     for i in 0..many {
@@ -256,7 +442,9 @@ fn return_results(b: &mut Body<'_>) {
 }
 
 // One result is given itself, several in an array.
-fn give(b: &mut Body<'_>, mark: Mark, many: usize) {
+fn give(b: &mut Body<'_>, mark: Mark, many: usize)
+    ensures { Grows b.old.pool b.new.pool }
+{
     let items = b.pool.close_list(mark);
     match many {
         0 => b.pool.leave(),
