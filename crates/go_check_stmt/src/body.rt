@@ -7,9 +7,10 @@ use crate::literals::{Literals, in_stmts};
 use crate::stmt::{NONE_OF_THEM, stmt_list};
 use crate::terminating::ends;
 use gj_base::{NoMemory, Place};
+use go_check_expr::types::{param_types, result_types};
 use go_check_state::node::VarRef;
 use go_check_state::state::joined;
-use go_check_state::{Checker, EMPTY, Entity, FaultCode, FuncRow, NONE, NameId};
+use go_check_state::{Checker, EMPTY, Entity, FaultCode, FuncRow, NONE, NameId, Shape};
 use go_check_type::parameters::{has_names, param_name};
 use go_syntax::tree::{Block, Params, Results, Sig};
 use go_type::types::TypeId;
@@ -42,15 +43,49 @@ fn named(
     }
 }
 
+// The types of the parameters: those of the signature, or where that isn't typed each by itself.
+fn types_of(c: &mut Checker, sig: TypeId, list: &Params) -> Result<Vec<TypeId>, NoMemory> {
+    let mut types: Vec<TypeId> = Vec::new(c.alloc);
+    if c.has(sig) {
+        for number in 0..list.items.len() {
+            types.push(c.param(sig, number))?;
+        }
+        return Ok(types);
+    }
+    match param_types(c, list, true)? {
+        Some((types, _)) => Ok(types),
+        None => Ok(types),
+    }
+}
+
+// The types of the results, as of parameters.
+fn types_of_results(
+    c: &mut Checker,
+    sig: TypeId,
+    results: &Results,
+) -> Result<Vec<TypeId>, NoMemory> {
+    let mut types: Vec<TypeId> = Vec::new(c.alloc);
+    if let Shape::Func(_, count, _) = c.shape(sig) {
+        for number in 0..count {
+            types.push(c.result_type(sig, number))?;
+        }
+        return Ok(types);
+    }
+    match result_types(c, results)? {
+        Some((types, _)) => Ok(types),
+        None => Ok(types),
+    }
+}
+
 fn declare_params(
     c: &mut Checker,
     vars: &mut Vec<u32>,
-    sig: TypeId,
+    types: &Vec<TypeId>,
     list: &Params,
 ) -> Result<(), NoMemory> {
     for number in 0..list.items.len() {
         let (name, at) = named(c, list, number, list.place)?;
-        let t = c.param(sig, number);
+        let t = types.get(number).copied().unwrap_or(NONE);
         parameter(c, vars, name, at, t)?;
     }
     Ok(())
@@ -60,14 +95,14 @@ fn declare_results(
     c: &mut Checker,
     f: &mut Frame,
     vars: &mut Vec<u32>,
-    sig: TypeId,
+    types: &Vec<TypeId>,
     results: &Results,
     place: Place,
 ) -> Result<(), NoMemory> {
     match results {
         Results::None => Ok(()),
         Results::Type(_) => {
-            let t = c.result_type(sig, 0);
+            let t = types.first().copied().unwrap_or(NONE);
             let var = parameter(c, vars, EMPTY, place, t)?;
             f.results.push(var)?;
             Ok(())
@@ -76,7 +111,7 @@ fn declare_results(
             f.named = has_names(list);
             for number in 0..list.items.len() {
                 let (name, at) = named(c, list, number, list.place)?;
-                let t = c.result_type(sig, number);
+                let t = types.get(number).copied().unwrap_or(NONE);
                 let var = parameter(c, vars, name, at, t)?;
                 f.results.push(var)?;
             }
@@ -170,30 +205,34 @@ fn function_body(c: &mut Checker, body: BodyRow<'_>) -> Result<(), NoMemory> {
         return Ok(());
     };
     enter(c, body.func, row);
+    let types = types_of(c, row.sig, &body.sig.params)?;
+    let results = types_of_results(c, row.sig, &body.sig.results)?;
     c.open()?;
     let mut f = Frame::new(c.alloc, row.sig);
     let mut vars: Vec<u32> = Vec::new(c.alloc);
     let block = body.block;
     declare_receiver(c, &mut vars, body.receiver, row.receiver)?;
-    declare_params(c, &mut vars, row.sig, &body.sig.params)?;
+    declare_params(c, &mut vars, &types, &body.sig.params)?;
     declare_results(
         c,
         &mut f,
         &mut vars,
-        row.sig,
+        &results,
         &body.sig.results,
         block.place,
     )?;
+    let start = c.mark();
     labels_in(c, &mut f, &block.stmts)?;
-    let before = c.told();
     let core = stmt_list(c, &mut f, &block.stmts, NONE_OF_THEM)?;
     f.tell_labels(c)?;
     c.close();
     c.current = None;
-    let typed = c.has(row.sig) && c.told() == before;
-    if typed && !returns_nothing(&body.sig.results) && !ends(c, &block.stmts) {
-        c.fault(FaultCode::MissingReturn, block.end)?;
-    }
+    let fault = if returns_nothing(&body.sig.results) || ends(c, &block.stmts) {
+        None
+    } else {
+        Some((FaultCode::MissingReturn, block.end))
+    };
+    c.end_body(body.func, c.has(row.sig), fault, start)?;
     let params = c.nodes.list(vars.as_slice())?;
     set_body(c, body.func, params, core);
     Ok(())

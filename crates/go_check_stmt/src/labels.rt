@@ -1,8 +1,8 @@
 //! The labels of a function's body, function literals aside. Go, "Labeled statements".
 
 use crate::frame::{Frame, LabelRow};
-use gj_base::NoMemory;
-use go_check_state::{BLANK, Checker, FaultCode};
+use gj_base::{NoMemory, Place};
+use go_check_state::{BLANK, Checker, FaultCode, NONE};
 use go_syntax::tree::{Block, Name, Stmt, StmtForm};
 
 /// The labels of statements: F82 at a second one.
@@ -68,5 +68,15 @@ fn label_of(c: &mut Checker, f: &mut Frame, s: &Stmt) -> Result<(), NoMemory> {
             Ok(())
         }
         _ => Ok(()),
+    }
+}
+
+/// The place of the last label of statements, or a place where they have none.
+pub fn last_label(c: &mut Checker, list: &Vec<Stmt>, before: Place) -> Result<Place, NoMemory> {
+    let mut f = Frame::new(c.alloc, NONE);
+    labels_in(c, &mut f, list)?;
+    match f.labels.last() {
+        Some(row) => Ok(row.place),
+        None => Ok(before),
     }
 }

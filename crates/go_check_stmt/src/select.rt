@@ -2,13 +2,14 @@
 
 use crate::assign::{left_side, new_variable, no_name};
 use crate::hold::{both, nothing, store};
+use crate::labels::last_label;
 use crate::sides::{Left, assigned, exprs, miscounted, targets_of};
 use gj_base::{NoMemory, Place};
 use go_check_call::calls::are_typed;
 use go_check_expr::expr::expr;
 use go_check_operand::assignment::{assignment, single_value};
 use go_check_state::node::{Node, PlaceNode, StmtId, StmtNode, VarRef};
-use go_check_state::{BLANK, Checker, EMPTY, FaultCode, NONE, NameId, Operand, Shape};
+use go_check_state::{BLANK, Checker, EMPTY, FaultCode, Mark, NONE, NameId, Operand, Shape};
 use go_syntax::tree::{Comm, Expr, ExprForm, Prefix, Stmt, StmtForm};
 use go_type::predeclared::{BOOL, untyped_id};
 use go_type::types::{Basis, Dir, TypeId};
@@ -66,9 +67,9 @@ pub struct Select {
     label: u32,
     cases: Vec<u32>,
     default: Option<StmtId>,
-    /// The place of one with too many cases, and what was told before it.
-    too_many: Option<Place>,
-    told: (usize, usize),
+    start: Mark,
+    /// The place of one with too many clauses, and that of its last label.
+    too_many: Option<(Place, Place)>,
 }
 
 /// `select {`.
@@ -82,13 +83,25 @@ pub fn begin_select(
         label,
         cases: Vec::new(c.alloc),
         default: None,
-        too_many: if comms.len() > 1000 {
-            Some(place)
-        } else {
-            None
-        },
-        told: c.told(),
+        start: c.mark(),
+        too_many: too_many(c, place, comms)?,
     })
+}
+
+// The place of a select with more clauses than may be, and of its last label.
+fn too_many(
+    c: &mut Checker,
+    place: Place,
+    comms: &Vec<Comm>,
+) -> Result<Option<(Place, Place)>, NoMemory> {
+    if comms.len() <= 1000 {
+        return Ok(None);
+    }
+    let mut last = place;
+    for comm in comms {
+        last = last_label(c, &comm.body, last)?;
+    }
+    Ok(Some((place, last)))
 }
 
 /// A clause's communication, and what is done first once it has taken place.
@@ -119,11 +132,10 @@ pub fn end_comm(
     Ok(())
 }
 
-/// The whole select: F76 past the limit of cases, where all its parts are typed.
+/// The whole select: F76 past the limit of clauses, where all its parts are typed.
 pub fn end_select(c: &mut Checker, g: Select) -> Result<StmtId, NoMemory> {
-    match g.too_many {
-        Some(place) if c.told() == g.told => c.fault(FaultCode::TooManyParts, place)?,
-        _ => {}
+    if let Some((place, last)) = g.too_many {
+        c.fault_of_whole(FaultCode::TooManyParts, place, g.start, last)?;
     }
     let cases = c.nodes.list(g.cases.as_slice())?;
     c.nodes.stmt(StmtNode::SelectStep {

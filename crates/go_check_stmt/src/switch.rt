@@ -1,21 +1,22 @@
 //! Switches. Go, "Expression switches", "Type switches".
 
 use crate::hold::{declare_with, nothing, read_var, sequence};
+use crate::labels::last_label;
 use gj_base::{NoMemory, Op, Place};
 use go_check_expr::expr::expr;
-use go_check_expr::literal::same_constant;
 use go_check_operand::assignment::{default_value, single_value};
 use go_check_operand::binary::binary;
 use go_check_state::node::{ConstId, Node, NodeId, StmtId, StmtNode, VarRef};
 use go_check_state::state::SymbolRow;
-use go_check_state::{BLANK, Checker, EMPTY, Entity, FaultCode, Mode, NONE, NameId, Operand};
+use go_check_state::{BLANK, Checker, EMPTY, Entity, FaultCode, Mark, Mode, NONE, NameId, Operand};
 use go_const::Const;
 use go_syntax::tree::{Clause, Expr, Name, Stmt, StmtForm};
 use go_type::predeclared::BOOL;
 use go_type::types::TypeId;
+use std::collections::BTreeSet;
 
-/// How many cases a switch may have.
-const MOST_CASES: usize = 1000;
+/// How many clauses a switch may have.
+const MOST_CLAUSES: usize = 1000;
 
 /// A switch so far: its operand, its tests and clauses, and the cases that were there.
 #[derive(Drop)]
@@ -28,18 +29,19 @@ pub struct Switch {
     tests: Vec<u32>,
     clauses: Vec<u32>,
     default: Option<u32>,
-    consts: Vec<(ConstId, TypeId)>,
-    types: Vec<TypeId>,
+    /// The numbers, the truth values and the numbers of the texts of the cases so far, with their types.
+    consts: BTreeSet<(u64, i128)>,
+    types: BTreeSet<u64>,
     nil: bool,
     symbol: Option<(NameId, Place)>,
     /// The symbol's objects, one for each clause.
     objects: Vec<u32>,
-    /// The place of one with too many cases, and what was told before it.
-    too_many: Option<Place>,
-    told: (usize, usize),
+    start: Mark,
+    /// The place of one with too many clauses, and that of its last label.
+    too_many: Option<(Place, Place)>,
 }
 
-fn begin(c: &Checker, x: Operand, bare: bool, parts: Vec<u32>) -> Switch {
+fn begin(c: &Checker, x: Operand, bare: bool, parts: Vec<u32>, start: Mark) -> Switch {
     Switch {
         label: 0,
         x,
@@ -48,20 +50,23 @@ fn begin(c: &Checker, x: Operand, bare: bool, parts: Vec<u32>) -> Switch {
         tests: Vec::new(c.alloc),
         clauses: Vec::new(c.alloc),
         default: None,
-        consts: Vec::new(c.alloc),
-        types: Vec::new(c.alloc),
+        consts: BTreeSet::new(c.alloc),
+        types: BTreeSet::new(c.alloc),
         nil: false,
         symbol: None,
         objects: Vec::new(c.alloc),
+        start,
         too_many: None,
-        told: c.told(),
     }
 }
 
-// F92 at a second default. Answers whether there are more cases than may be.
-fn count_clauses(c: &mut Checker, clauses: &Vec<Clause>) -> Result<bool, NoMemory> {
+// F92 at a second default. Answers the place of a switch with more clauses than may be, and of its last label.
+fn count_clauses(
+    c: &mut Checker,
+    place: Place,
+    clauses: &Vec<Clause>,
+) -> Result<Option<(Place, Place)>, NoMemory> {
     let mut seen = false;
-    let mut cases = 0usize;
     for clause in clauses {
         if clause.exprs.is_empty() {
             if seen {
@@ -69,9 +74,15 @@ fn count_clauses(c: &mut Checker, clauses: &Vec<Clause>) -> Result<bool, NoMemor
             }
             seen = true;
         }
-        cases = cases.saturating_add(clause.exprs.len());
     }
-    Ok(cases > MOST_CASES || clauses.len() > MOST_CASES)
+    if clauses.len() <= MOST_CLAUSES {
+        return Ok(None);
+    }
+    let mut last = place;
+    for clause in clauses {
+        last = last_label(c, &clause.body, last)?;
+    }
+    Ok(Some((place, last)))
 }
 
 // An operand that is evaluated once.
@@ -97,7 +108,7 @@ pub fn begin_switch(
     tag: &Option<Expr>,
     clauses: &Vec<Clause>,
 ) -> Result<Switch, NoMemory> {
-    let told = c.told();
+    let start = c.mark();
     let mut parts: Vec<u32> = Vec::new(c.alloc);
     parts.push(init.0)?;
     let x = match tag {
@@ -108,10 +119,9 @@ pub fn begin_switch(
         }
         None => missing_tag(c, place)?,
     };
-    let many = count_clauses(c, clauses)?;
-    let mut g = begin(c, x, tag.is_none(), parts);
-    g.too_many = if many { Some(place) } else { None };
-    g.told = told;
+    let too_many = count_clauses(c, place, clauses)?;
+    let mut g = begin(c, x, tag.is_none(), parts, start);
+    g.too_many = too_many;
     Ok(g)
 }
 
@@ -135,7 +145,7 @@ impl Switch {
 // The number of the clause that comes next.
 fn next_clause(g: &Switch) -> u32 {
     let number = g.clauses.len() / 2;
-    if number > MOST_CASES {
+    if number > MOST_CLAUSES {
         1000
     } else {
         number as u32
@@ -165,16 +175,25 @@ fn case(c: &mut Checker, g: &mut Switch, e: &Expr) -> Result<(), NoMemory> {
     let Some((id, t)) = case_constant(c, x, test) else {
         return Ok(());
     };
-    if g.consts
-        .iter()
-        .any(|(other, of)| of.0 == t.0 && same_constant(c, *other, id))
-    {
+    let Some(number) = constant_number(c, id)? else {
+        return Ok(());
+    };
+    if !g.consts.insert((t.0, number))? {
         return c.fault(FaultCode::DuplicateCase, e.place);
     }
-    if g.consts.len() < MOST_CASES {
-        g.consts.push((id, t))?;
-    }
     Ok(())
+}
+
+// A number that is another for each constant of a type.
+fn constant_number(c: &mut Checker, id: ConstId) -> Result<Option<i128>, NoMemory> {
+    let bytes = match c.constant(id) {
+        Some(Const::Text(text)) => Vec::from_slice(c.alloc, text.as_bytes())?,
+        Some(Const::Int(x)) | Some(Const::Rune(x)) => return Ok(Some(*x)),
+        Some(Const::Bool(x)) => return Ok(Some(if *x { 1 } else { 0 })),
+        None => return Ok(None),
+    };
+    let name = c.names.intern(bytes.as_slice())?;
+    Ok(Some(name.0 as i128))
 }
 
 // A test; without a tag the case alone is one.
@@ -244,13 +263,9 @@ pub fn end_clause(g: &mut Switch, body: StmtId, falls: bool) -> Result<(), NoMem
     Ok(())
 }
 
-/// The whole switch: F76 past the limit of cases, where all its parts are typed. Of a symbol are told the
+/// The whole switch: F76 past the limit of clauses, where all its parts are typed. Of a symbol are told the
 /// objects, for it is unused where none of them is used.
 pub fn end_switch(c: &mut Checker, g: Switch) -> Result<StmtId, NoMemory> {
-    match g.too_many {
-        Some(place) if c.told() == g.told => c.fault(FaultCode::TooManyParts, place)?,
-        _ => {}
-    }
     if let Some((name, place)) = g.symbol {
         let objects = c.nodes.list(g.objects.as_slice())?;
         c.symbols.push(SymbolRow {
@@ -258,6 +273,9 @@ pub fn end_switch(c: &mut Checker, g: Switch) -> Result<StmtId, NoMemory> {
             place,
             objects,
         })?;
+    }
+    if let Some((place, last)) = g.too_many {
+        c.fault_of_whole(FaultCode::TooManyParts, place, g.start, last)?;
     }
     let tests = c.nodes.list(g.tests.as_slice())?;
     let clauses = c.nodes.list(g.clauses.as_slice())?;
@@ -281,7 +299,7 @@ pub fn begin_type_switch(
     of: &Expr,
     clauses: &Vec<Clause>,
 ) -> Result<Switch, NoMemory> {
-    let told = c.told();
+    let start = c.mark();
     let mut parts: Vec<u32> = Vec::new(c.alloc);
     parts.push(init.0)?;
     let x = expr(c, of)?;
@@ -291,12 +309,11 @@ pub fn begin_type_switch(
     } else {
         once(c, &mut parts, x)?
     };
-    let many = count_clauses(c, clauses)?;
+    let too_many = count_clauses(c, place, clauses)?;
     let symbol = symbol_name(c, name)?;
-    let mut g = begin(c, x, false, parts);
+    let mut g = begin(c, x, false, parts, start);
     g.symbol = symbol;
-    g.too_many = if many { Some(place) } else { None };
-    g.told = told;
+    g.too_many = too_many;
     Ok(g)
 }
 
@@ -371,11 +388,8 @@ fn nil_test(c: &mut Checker, g: &mut Switch, place: Place) -> Result<(), NoMemor
 
 // F68 at a type without the methods, F92 at one that was there.
 fn type_test(c: &mut Checker, g: &mut Switch, place: Place, t: TypeId) -> Result<(), NoMemory> {
-    if g.types.iter().any(|other| other.0 == t.0) {
+    if !g.types.insert(t.0)? {
         return c.fault(FaultCode::DuplicateCase, place);
-    }
-    if g.types.len() < MOST_CASES {
-        g.types.push(t)?;
     }
     if g.x.is_unknown() {
         return Ok(());
