@@ -1,0 +1,4 @@
+pub mod Logic
+pub mod Numbers
+pub mod Steps
+pub mod Values
