@@ -7,6 +7,7 @@
 
 pub mod classes;
 pub mod direct;
+pub mod items;
 pub mod methods;
 pub mod program;
 pub mod reach;

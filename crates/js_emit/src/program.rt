@@ -1,7 +1,12 @@
 //! From a program to its script.
 
+ghost use Rattle.std.specs.Prelude.{List, IfOk};
+ghost use Rattle.js_tree.specs.declared.tree.JsItem.{JsItem};
+ghost use Rattle.js_emit.specs.Items.{AddsKept};
+
 use crate::classes::join_tagged;
 use crate::direct::{add_direct_init, is_direct};
+use crate::items::add_kept;
 use crate::reach::Reach;
 use crate::start::{add_start, reach_direct, reach_turns};
 use crate::top::{add_dynamic_types, add_globals, add_panics};
@@ -102,22 +107,13 @@ fn add_rows(b: &mut Body<'_>) {
     }
 }
 
-fn add_item(items: &mut Vec<JsItem>, item: JsItem) -> Result<(), NoMemory> {
-    items.push(item)?;
-    Ok(())
-}
-
 // The parts of the library, what is reached, and `$start`, which is the last item.
-fn script_of(alloc: Global, b: &Body<'_>, reach: &Reach) -> Result<Script, EmitRefusal> {
+fn script_of(alloc: Global, b: &Body<'_>, reach: &Reach) -> Result<Script, EmitRefusal>
+    ensures { IfOk result (λ s. (parts : List JsItem) × AddsKept b.now.pool reach.now.reached.items parts s.items.items) }
+{
     let mut items: Vec<JsItem> = Vec::new(alloc);
     reach.needs.add_items(&mut items)?;
-    let made = b.pool.items.as_slice();
-    for n in 0..made.len() {
-        if reach.has_item(n) || n.saturating_add(1) == made.len() {
-            let item = b.pool.item_tree(made[n])?;
-            add_item(&mut items, item)?;
-        }
-    }
+    add_kept(&mut items, &b.pool, reach)?;
     Ok(Script {
         items,
         start: Text::from_slice(alloc, b"$start")?,

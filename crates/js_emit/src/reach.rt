@@ -1,6 +1,9 @@
 //! What a script needs: the items that `$start` leads to by names, and the parts of the run-time library
 //! that these mention.
 
+ghost use Rattle.std.specs.Prelude.{◌≡◌};
+ghost use Rattle.js_emit.specs.Items.{is_reached};
+
 use crate::methods::{Methods, get, put};
 use crate::top::{name_number, predeclared};
 use gj_base::NoMemory;
@@ -21,7 +24,7 @@ const LETTERS: &[u8] = b"fmarnozdygp";
 pub struct Reach {
     /// By letter and number: the number of the item from 1 on, or 0.
     by_number: Vec<Vec<u32>>,
-    reached: Vec<bool>,
+    pub reached: Vec<bool>,
     work: Vec<u32>,
     methods: Methods,
     pub needs: Needs,
@@ -127,7 +130,9 @@ impl Reach {
     }
 
     /// Whether an item is reached.
-    pub fn has_item(&self, n: usize) -> bool {
+    pub fn has_item(&self, n: usize) -> bool
+        ensures { result ≡ is_reached self.now.reached.items n }
+    {
         match self.reached.get(n) {
             Some(b) => *b,
             None => false,
