@@ -1,7 +1,8 @@
 -- Control of a plain function: what statements make of a body's state.
-use Rattle.std.specs.Prelude.{ℕ, take, drop, ◌+◌, ◌-◌, ◌&&◌, ◌++◌, min, nat_eq, nat_lt, List, [], ◌∷◌, length, Bool, true, false, not, if◌then◌else◌, Option, Some, None, codes, decimal}
+use Rattle.std.specs.Prelude.{ℕ, zero, suc, take, drop, ◌+◌, ◌-◌, ◌&&◌, ◌++◌, min, nat_eq, nat_lt, List, [], ◌∷◌, length, Bool, true, false, not, if◌then◌else◌, Option, Some, None, codes, decimal}
+use Rattle.std.specs.List.{slice_get}
 use Rattle.js_tree.specs.Script as script
-use Rattle.js_tree.specs.Script.{Expr, Stmts, no_stmts}
+use Rattle.js_tree.specs.Script.{Expr, no_exprs, Stmts, no_stmts}
 use Rattle.js_tree.specs.declared.tree.UnaryOp.TheVariants.{Not}
 use Rattle.js_pool.specs.Tree as tree
 use Rattle.js_pool.specs.StmtTree.{else_tree}
@@ -9,8 +10,11 @@ use Rattle.js_pool.specs.declared.pool.Mark.{Mark}
 use Rattle.go_core.specs.declared.statement.Label.{Label}
 use Rattle.go_core.specs.declared.statement.BranchKind.{BranchKind}
 use Rattle.go_core.specs.declared.statement.BranchKind.TheVariants as kind
+use Rattle.js_facts.specs.declared.facts.Facts.{Facts}
+use Rattle.js_facts.specs.Held.{is_block, how_held}
 use Rattle.js_body.specs.declared.body.Exits.{Exits}
-use Rattle.js_body.specs.State.{State, Line, Arm, says, block_tree, cases_tree, with_arm, with_arms_of, lines_since, cut_to, with_line, mark_at, taken, taken_tree, next_case, with_cases, looped, unlooped, entered, left, is_continued, exits_of, continued, scratched}
+use Rattle.js_body.specs.declared.body.Home.{Home}
+use Rattle.js_body.specs.State.{State, Line, Arm, says, block_tree, cases_tree, with_arm, with_arms_of, lines_since, cut_to, with_line, mark_at, taken, taken_tree, next_case, with_cases, looped, unlooped, entered, left, is_continued, exits_of, continued, scratched, depth, list_tree, with_item, with_items_of, value_at, dropped_to, var_tree, slot_read}
 use Rattle.js_plain.specs.declared.control.If.{If}
 use Rattle.js_plain.specs.declared.control.Turns.{Turns}
 use Rattle.js_plain.specs.declared.control.Clauses.{Clauses}
@@ -224,3 +228,74 @@ return_line t = says (script.return 0 (Some t))
 -- the last value is returned
 abbrev pub value_returned : State → State
 value_returned s = with_line (return_line (taken_tree s)) (taken s)
+
+-- the expressions of open lists since a mark are returned in an array
+abbrev pub array_line : List Expr → Line
+array_line ts = return_line (tree.array (list_tree ts no_exprs))
+
+abbrev pub array_returned : ℕ → State → State
+array_returned mark s = with_line (array_line (take (length s.items - mark) s.items)) (with_items_of (drop (length s.items - mark) s.items) s)
+
+-- the values up to a place are those of a list
+abbrev pub value_listed : ℕ → State → State
+value_listed place s = with_item (value_at place s).tree s
+
+abbrev pub values_upto : ℕ → State → State
+values_upto zero s = s
+values_upto (suc n) s = value_listed n (values_upto n s)
+
+abbrev pub values_listed : State → State
+values_listed s = values_upto (depth s) s
+
+abbrev pub several_returned : State → State
+several_returned s = array_returned (length s.items) (dropped_to 0 (values_listed s))
+
+-- a variable is one more of a list, or is returned
+abbrev pub var_listed : Home → State → State
+var_listed h s = with_item (var_tree h s) (slot_read h.slot s)
+
+abbrev pub var_returned : Home → State → State
+var_returned h s = with_line (return_line (var_tree h s)) (slot_read h.slot s)
+
+abbrev pub result_listed : Option Home → State → State
+result_listed (Some h) s = var_listed h s
+result_listed None s = s
+
+abbrev pub result_returned : Option Home → State → State
+result_returned (Some h) s = var_returned h s
+result_returned None s = s
+
+abbrev pub results_upto : ℕ → State → State
+results_upto zero s = s
+results_upto (suc n) s = result_listed (slice_get (results_upto n s).around.results n) (results_upto n s)
+
+abbrev pub results_listed : State → State
+results_listed s = results_upto (length s.around.results) s
+
+-- the results as they stand are returned
+abbrev pub first_returned : State → State
+first_returned s = result_returned (slice_get s.around.results 0) s
+
+abbrev pub all_returned : State → State
+all_returned s = array_returned (length s.items) (results_listed s)
+
+abbrev pub named_returned : State → State
+named_returned s = if nat_eq (length s.around.results) 1 then first_returned s else all_returned s
+
+abbrev pub none_line : Line
+none_line = says (script.return 0 None)
+
+abbrev pub results_returned : State → State
+results_returned s = if nat_eq (length s.around.results) 0 then with_line none_line s else named_returned s
+
+abbrev pub others_returned : State → State
+others_returned s = if nat_eq (depth s) 0 then results_returned s else several_returned s
+
+-- the values on the stack are returned; the results as they stand where there are none
+abbrev pub returned : State → State
+returned s = if nat_eq (depth s) 1 then value_returned s else others_returned s
+
+-- whether what is there is a struct or an array
+abbrev pub block_held : Option Home → Facts → Bool
+block_held None f = false
+block_held (Some h) f = is_block (how_held f.«program».now.types h.ty)

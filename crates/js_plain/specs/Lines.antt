@@ -1,6 +1,7 @@
 -- Laws of statements that are added, and of blocks.
-use Rattle.std.proofs.Common.{◌≡◌, ◌≤◌, ℕ, List, [], ◌∷◌, ◌++◌, reverse, length, Bool, true, false, refl, sym, ap, ◌∙◌, subst, if◌then◌else◌, Option, Some, None}
+use Rattle.std.proofs.Common.{◌≡◌, ◌≤◌, ℕ, List, [], ◌∷◌, ◌++◌, reverse, length, Bool, true, false, nat_eq, refl, sym, ap, ◌∙◌, subst, if◌then◌else◌, Option, Some, None}
 use Rattle.std.proofs.lemmas.List.{reverse-append}
+use Rattle.std.specs.List.{slice_get}
 use Rattle.js_tree.specs.Script as script
 use Rattle.js_tree.specs.Script.{Expr, Stmts, no_stmts}
 use Rattle.js_pool.specs.Stands.{Stands, Later, Grows, Opened, opened}
@@ -13,10 +14,12 @@ use Rattle.js_pool.specs.declared.pool.Pool.{Pool}
 use Rattle.js_pool.specs.declared.pool.Mark.{Mark}
 use Rattle.js_body.specs.declared.body.Operand.{Operand}
 use Rattle.js_body.specs.declared.body.Body.{Body}
-use Rattle.js_body.specs.State.{State, depth, Around, Line, says, block_tree, with_line, with_lines_of, mark_at, lines_since, cut_to}
+use Rattle.js_body.specs.State.{State, depth, Around, Line, says, block_tree, with_line, with_lines_of, mark_at, lines_since, cut_to, held_type, var_tree, slot_read}
 use Rattle.js_body.specs.Tells.{PartsTell, Tells, Lasts, Runs, Runs1, Gives, LinesAre, no_line, more_lines, LineIs, said, BlockIs, around}
 use Rattle.js_body.specs.Later.{itself, stands_later}
-use Rattle.js_plain.specs.Control.{value_returned}
+use Rattle.js_facts.specs.Held.{is_block}
+use Rattle.js_body.specs.declared.body.Home.{Home}
+use Rattle.js_plain.specs.Control.{block_held}
 use Rattle.js_body.specs.BlockLaws.{block_later, block_says, parts_since}
 use Rattle.js_body.specs.StepLaws.{earlier, from_here, parts_line, lines_later, items_kept, arms_kept, values_later}
 
@@ -44,9 +47,32 @@ GivesSince p q mark r g f = Grows p.pool q.pool × (Lasts q → (s : State) → 
 abbrev pub RunsArms : Body → Body → ExprId → ℕ → (Expr → State → State) → Type 0
 RunsArms p q a mark f = Grows p.pool q.pool × (Lasts q → (t : Expr) → Stands p.pool a t → (s : State) → Tells p s → mark ≤ length s.arms → Tells q (f t s))
 
--- the one value on the stack is returned
-abbrev pub ReturnsOne : Body → Body → Type 0
-ReturnsOne p q = Grows p.pool q.pool × (Lasts q → (s : State) → Tells p s → depth s ≡ 1 → Tells q (value_returned s))
+-- what is done since a mark of open lists
+abbrev pub RunsItems : Body → Body → ℕ → (State → State) → Type 0
+RunsItems p q mark f = Grows p.pool q.pool × (Lasts q → (s : State) → Tells p s → mark ≤ length s.items → Tells q (f s))
+
+-- what is done where no result is a struct or an array
+abbrev pub ScalarResults : State → Type 0
+ScalarResults s = (i : ℕ) → block_held (slice_get s.around.results i) s.around.facts ≡ false
+
+abbrev pub RunsResults : Body → Body → (State → State) → Type 0
+RunsResults p q f = Grows p.pool q.pool × (Lasts q → (s : State) → Tells p s → ScalarResults s → Tells q (f s))
+
+-- likewise, asked where there are no values on the stack
+abbrev pub Returns : Body → Body → (State → State) → Type 0
+Returns p q f = Grows p.pool q.pool × (Lasts q → (s : State) → Tells p s → (nat_eq (depth s) 0 ≡ true → ScalarResults s) → Tells q (f s))
+
+-- what is done with a variable that may be there, where it is no struct or array
+abbrev pub RunsHeld : Body → Body → Option Home → (State → State) → Type 0
+RunsHeld p q o f = Grows p.pool q.pool × (Lasts q → (s : State) → Tells p s → block_held o s.around.facts ≡ false → Tells q (f s))
+
+abbrev pub RunsVar : Body → Body → Home → (State → State) → Type 0
+RunsVar p q h f = Grows p.pool q.pool × (Lasts q → (s : State) → Tells p s → is_block (held_type h.ty s) ≡ false → Tells q (f s))
+
+abbrev pub GivesVar : Body → Body → Home → ExprId → Type 0
+GivesVar p q h r =
+    Grows p.pool q.pool ×
+    (Lasts q → (s : State) → Tells p s → is_block (held_type h.ty s) ≡ false → Stands q.pool r (var_tree h s) × Tells q (slot_read h.slot s))
 
 -- the statements since a mark become a closed block
 abbrev pub GivesArm : Body → Body → ExprId → ℕ → Block → (State → List Line) → (Expr → State → State) → Type 0

@@ -2,15 +2,16 @@
 //! "Labeled statements", "Return statements". Each place that a branch leaves has a label `$LN`.
 
 ghost use Rattle.std.specs.Prelude.{◌≡◌, ◌≤◌, length, [], nat_eq};
+ghost use Rattle.std.specs.List.{slice_get};
 ghost use Rattle.js_pool.specs.Names.{name_bytes};
 ghost use Rattle.js_pool.specs.Stands.{Grows};
 ghost use Rattle.js_body.specs.State.{State, temp_tree, depth, with_line, lines_since, cut_to, mark_at, with_cases, looped, continued};
 ghost use Rattle.js_body.specs.Tells.{Tells, Lasts, Runs, Runs1, Gives};
-ghost use Rattle.js_plain.specs.Control.{label_bytes, left_at, left_where, left_unless, closed_at, begins_chain, chain_label, chain_labelled, if_begun, chain_begun, arm_left, said_where, arm_lines, arm_ended, if_line, chain_ended, if_ended, turn_next, turns_begun, loop_begun, turn_begun, block_turn, turn_ended, loop_ended, gone_on_to, branched, chosen_set, counted, choice_begun, choice_said, chosen, default_of, choice_ended, clause_begun, clause_left, clause_ended, clauses_ended, value_returned};
-ghost use Rattle.js_plain.specs.Lines.{RunsSince, GivesThat, GivesSince, RunsArms, ReturnsOne, GivesArm, SaysArm, SaysIf, EndsIf};
+ghost use Rattle.js_plain.specs.Control.{label_bytes, left_at, left_where, left_unless, closed_at, begins_chain, chain_label, chain_labelled, if_begun, chain_begun, arm_left, said_where, arm_lines, arm_ended, if_line, chain_ended, if_ended, turn_next, turns_begun, loop_begun, turn_begun, block_turn, turn_ended, loop_ended, gone_on_to, branched, chosen_set, counted, choice_begun, choice_said, chosen, default_of, choice_ended, clause_begun, clause_left, clause_ended, clauses_ended, value_returned, returned, others_returned, several_returned, values_listed, value_listed, array_returned, results_returned, named_returned, first_returned, result_returned, var_returned, all_returned, results_listed, result_listed, var_listed};
+ghost use Rattle.js_plain.specs.Lines.{RunsSince, GivesThat, GivesSince, RunsArms, Returns, RunsItems, RunsResults, RunsHeld, RunsVar, GivesVar, GivesArm, SaysArm, SaysIf, EndsIf};
 
 use go_core::statement::{BranchKind, Label};
-use js_body::{Body, Exits};
+use js_body::{Body, Exits, Home};
 use js_pool::{Block, ExprId, Mark, Name};
 
 fn label_name(n: u32) -> Name
@@ -380,7 +381,7 @@ pub fn end_clauses(b: &mut Body<'_>, c: Clauses, tag: ExprId, cases: Mark)
 
 /// A return of the values on the stack; of the results as they stand where there are none.
 pub fn return_values(b: &mut Body<'_>)
-    ensures { ReturnsOne b.old b.new }
+    ensures { Returns b.old b.new returned }
 {
     if is_one(b.depth()) {
         return_one(b);
@@ -395,6 +396,12 @@ fn is_one(n: usize) -> bool
     n == 1
 }
 
+fn is_none(n: usize) -> bool
+    ensures { result ≡ nat_eq n 0 }
+{
+    n == 0
+}
+
 fn return_one(b: &mut Body<'_>)
     ensures { Runs b.old b.new value_returned }
 {
@@ -403,60 +410,152 @@ fn return_one(b: &mut Body<'_>)
 }
 
 fn return_others(b: &mut Body<'_>)
-    ensures { Grows b.old.pool b.new.pool }
+    ensures { Returns b.old b.new others_returned }
 {
-    if b.depth() == 0 {
+    if is_none(b.depth()) {
         return_results(b);
     } else {
         return_several(b);
     }
 }
 
+// Several values are given in an array.
 fn return_several(b: &mut Body<'_>)
-    ensures { Grows b.old.pool b.new.pool }
+    ensures { Runs b.old b.new several_returned }
 {
     let mark = b.pool.open_list();
-    for i in 0..b.depth() {
-        let o = b.value_at(i);
-        b.pool.item(o.e);
-    }
-    let many = b.depth();
+    list_values(b);
     b.drop_to(0);
-    give(b, mark, many);
+    give_array(b, mark);
 }
 
-fn return_results(b: &mut Body<'_>)
-    ensures { Grows b.old.pool b.new.pool }
+fn list_values(b: &mut Body<'_>)
+    ensures { Runs b.old b.new values_listed }
 {
-    let many = b.results.len();
-    let mark = b.pool.open_list();
-    for i in 0..many {
-        if i < b.results.len() {
-            let h = b.results[i];
-            let e = b.var(h);
-            let e = b.own(e, h.ty);
-            b.pool.item(e);
-        }
+    for i in 0..b.depth() {
+        list_value(b, i);
     }
-    give(b, mark, many);
 }
 
-// One result is given itself, several in an array.
-fn give(b: &mut Body<'_>, mark: Mark, many: usize)
-    ensures { Grows b.old.pool b.new.pool }
+fn list_value(b: &mut Body<'_>, place: usize)
+    ensures { Runs b.old b.new (value_listed place) }
+{
+    let o = b.value_at(place);
+    b.pool.item(o.e);
+}
+
+// The expressions since a mark are given in an array.
+fn give_array(b: &mut Body<'_>, mark: Mark)
+    ensures { RunsItems b.old b.new mark.0 (array_returned mark.0) }
 {
     let items = b.pool.close_list(mark);
-    match many {
-        0 => b.pool.leave(),
-        1 => {
-            if let [e, ..] = items.of(b.pool.lists.as_slice()) {
-                let e = *e;
-                b.pool.give(e);
-            }
-        }
-        _ => {
-            let e = b.pool.array(items);
-            b.pool.give(e);
-        }
+    let e = b.pool.array(items);
+    b.pool.give(e);
+}
+
+// ---- the results as they stand
+
+fn return_results(b: &mut Body<'_>)
+    ensures { RunsResults b.old b.new results_returned }
+{
+    if is_none(result_count(b)) {
+        b.pool.leave();
+    } else {
+        return_named(b);
     }
+}
+
+fn result_count(b: &Body<'_>) -> usize
+    ensures { (s : State) → Tells b.now s → result ≡ length s.around.results }
+{
+    b.results.len()
+}
+
+fn return_named(b: &mut Body<'_>)
+    ensures { RunsResults b.old b.new named_returned }
+{
+    if is_one(result_count(b)) {
+        return_first(b);
+    } else {
+        return_all(b);
+    }
+}
+
+fn home_at(homes: &[Home], i: usize) -> Option<Home>
+    ensures { result ≡ slice_get homes.now i }
+{
+    match homes.get(i) {
+        Some(h) => Some(*h),
+        None => None,
+    }
+}
+
+fn result_at(b: &Body<'_>, i: usize) -> Option<Home>
+    ensures { (s : State) → Tells b.now s → result ≡ slice_get s.around.results i }
+{
+    home_at(b.results.as_slice(), i)
+}
+
+fn return_first(b: &mut Body<'_>)
+    ensures { RunsResults b.old b.new first_returned }
+{
+    let h = result_at(b, 0);
+    return_result(b, h);
+}
+
+fn return_result(b: &mut Body<'_>, h: Option<Home>)
+    ensures { RunsHeld b.old b.new h (result_returned h) }
+{
+    match h {
+        Some(h) => return_var(b, h),
+        None => {}
+    }
+}
+
+fn return_var(b: &mut Body<'_>, h: Home)
+    ensures { RunsVar b.old b.new h (var_returned h) }
+{
+    let e = result_value(b, h);
+    b.pool.give(e);
+}
+
+// What a variable holds, which the caller may keep.
+fn result_value(b: &mut Body<'_>, h: Home) -> ExprId
+    ensures { GivesVar b.old b.new h result }
+{
+    let e = b.var(h);
+    b.own(e, h.ty)
+}
+
+fn return_all(b: &mut Body<'_>)
+    ensures { RunsResults b.old b.new all_returned }
+{
+    let mark = b.pool.open_list();
+    list_results(b);
+    give_array(b, mark);
+}
+
+fn list_results(b: &mut Body<'_>)
+    ensures { RunsResults b.old b.new results_listed }
+{
+    for i in 0..result_count(b) {
+        let h = result_at(b, i);
+        list_result(b, h);
+    }
+}
+
+fn list_result(b: &mut Body<'_>, h: Option<Home>)
+    ensures { RunsHeld b.old b.new h (result_listed h) }
+{
+    match h {
+        Some(h) => list_var(b, h),
+        None => {}
+    }
+}
+
+fn list_var(b: &mut Body<'_>, h: Home)
+    ensures { RunsVar b.old b.new h (var_listed h) }
+{
+    let e = result_value(b, h);
+    b.pool.item(e);
 }
