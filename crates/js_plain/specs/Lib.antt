@@ -1,2 +1,4 @@
 pub mod Control
+pub mod Fresh
 pub mod Lines
+pub mod Whole
