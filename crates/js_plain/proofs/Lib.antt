@@ -1,2 +1,5 @@
 pub mod Blocks
+pub mod Declared
+pub mod Ended
+pub mod Last
 pub mod Returns

@@ -16,6 +16,7 @@ use Rattle.js_body.specs.declared.body.Exits.{Exits}
 use Rattle.js_body.specs.declared.body.Home.{Home}
 use Rattle.js_body.specs.State.{State, Line, Arm, says, block_tree, cases_tree, with_arm, with_arms_of, lines_since, cut_to, with_line, mark_at, taken, taken_tree, next_case, with_cases, looped, unlooped, entered, left, is_continued, exits_of, continued, scratched, depth, list_tree, with_item, with_items_of, value_at, dropped_to, var_tree, slot_read}
 use Rattle.js_plain.specs.declared.control.If.{If}
+use Rattle.js_plain.specs.declared.control.Labeled.{Labeled}
 use Rattle.js_plain.specs.declared.control.Turns.{Turns}
 use Rattle.js_plain.specs.declared.control.Clauses.{Clauses}
 
@@ -49,6 +50,20 @@ block_line n ls = says (script.switch 0 (Some (label_bytes n)) (tree.number 0) (
 -- the statements since a mark become such a block
 abbrev pub closed_at : ℕ → ℕ → State → State
 closed_at mark n s = with_line (block_line n (lines_since mark s)) (cut_to mark s)
+
+-- ---- blocks that `break` leaves
+
+abbrev pub labeled_with : ℕ → Mark → Labeled
+labeled_with end mark = record { end = end; mark = mark }
+
+abbrev pub labeled_at : State → Labeled
+labeled_at s = labeled_with (next_case s) (mark_at (length s.lines))
+
+abbrev pub labeled_begun : Label → State → State
+labeled_begun l s = entered l (next_case s) (next_case s) (with_cases 1 s)
+
+abbrev pub labeled_ended : Labeled → State → State
+labeled_ended l s = closed_at l.mark.0 l.end (left s)
 
 -- ---- ifs
 

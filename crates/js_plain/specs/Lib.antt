@@ -1,2 +1,5 @@
 pub mod Control
+pub mod Fresh
 pub mod Lines
+pub mod Stmts
+pub mod Whole

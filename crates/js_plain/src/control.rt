@@ -7,7 +7,7 @@ ghost use Rattle.js_pool.specs.Names.{name_bytes};
 ghost use Rattle.js_pool.specs.Stands.{Grows};
 ghost use Rattle.js_body.specs.State.{State, temp_tree, depth, with_line, lines_since, cut_to, mark_at, with_cases, looped, continued};
 ghost use Rattle.js_body.specs.Tells.{Tells, Lasts, Runs, Runs1, Gives};
-ghost use Rattle.js_plain.specs.Control.{label_bytes, left_at, left_where, left_unless, closed_at, begins_chain, chain_label, chain_labelled, if_begun, chain_begun, arm_left, said_where, arm_lines, arm_ended, if_line, chain_ended, if_ended, turn_next, turns_begun, loop_begun, turn_begun, block_turn, turn_ended, loop_ended, gone_on_to, branched, chosen_set, counted, choice_begun, choice_said, chosen, default_of, choice_ended, clause_begun, clause_left, clause_ended, clauses_ended, value_returned, returned, others_returned, several_returned, values_listed, value_listed, array_returned, results_returned, named_returned, first_returned, result_returned, var_returned, all_returned, results_listed, result_listed, var_listed};
+ghost use Rattle.js_plain.specs.Control.{label_bytes, left_at, left_where, left_unless, closed_at, labeled_at, labeled_begun, labeled_ended, begins_chain, chain_label, chain_labelled, if_begun, chain_begun, arm_left, said_where, arm_lines, arm_ended, if_line, chain_ended, if_ended, turn_next, turns_begun, loop_begun, turn_begun, block_turn, turn_ended, loop_ended, gone_on_to, branched, chosen_set, counted, choice_begun, choice_said, chosen, default_of, choice_ended, clause_begun, clause_left, clause_ended, clauses_ended, value_returned, returned, others_returned, several_returned, values_listed, value_listed, array_returned, results_returned, named_returned, first_returned, result_returned, var_returned, all_returned, results_listed, result_listed, var_listed};
 ghost use Rattle.js_plain.specs.Lines.{RunsSince, GivesThat, GivesSince, RunsArms, Returns, RunsItems, RunsResults, RunsHeld, RunsVar, GivesVar, GivesArm, SaysArm, SaysIf, EndsIf};
 
 use go_core::statement::{BranchKind, Label};
@@ -52,6 +52,31 @@ pub fn close_at(b: &mut Body<'_>, mark: Mark, n: u32)
 {
     let block = b.pool.close(mark);
     b.pool.block_at(label_name(n), block);
+}
+
+/// A block that `break` with a label leaves.
+#[derive(Clone, Copy)]
+pub struct Labeled {
+    pub end: u32,
+    pub mark: Mark,
+}
+
+/// Begins a block that `break` leaves.
+pub fn begin_labeled(b: &mut Body<'_>, label: Label) -> Labeled
+    ensures { GivesThat b.old b.new result labeled_at (labeled_begun label) }
+{
+    let end = b.fresh(1);
+    b.enter_label(label, end, end);
+    let mark = b.pool.open();
+    Labeled { end, mark }
+}
+
+/// Ends a block that `break` leaves.
+pub fn end_labeled(b: &mut Body<'_>, l: Labeled)
+    ensures { RunsSince b.old b.new l.mark.0 (labeled_ended l) }
+{
+    b.leave_label();
+    close_at(b, l.mark, l.end);
 }
 
 // ---- ifs

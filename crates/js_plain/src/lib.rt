@@ -6,6 +6,7 @@
 #![tactic(auto)]
 
 pub mod control;
+pub mod fresh;
 pub mod function;
 pub mod sets;
 pub mod stmt;

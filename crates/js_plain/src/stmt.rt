@@ -1,15 +1,21 @@
 //! Statements of a plain function.
 
+ghost use Rattle.std.specs.Prelude.{◌≡◌, List};
+ghost use Rattle.go_type.specs.Tree.{Ty};
+ghost use Rattle.go_core.specs.CoreView.{stmt_view, stmts_view};
+ghost use Rattle.js_plain.specs.Whole.{is_if, is_one_if};
+
 use crate::control::{
-    Clauses, Turns, begin_choice, begin_clause, begin_if, begin_loop, begin_turn, branch, choose,
-    close_at, end_arm, end_choice, end_clause, end_clauses, end_if, end_loop, end_turn,
-    leave_unless, leave_where, return_values,
+    Clauses, Turns, begin_choice, begin_clause, begin_if, begin_labeled, begin_loop, begin_turn,
+    branch, choose, end_arm, end_choice, end_clause, end_clauses, end_if, end_labeled, end_loop,
+    end_turn, leave_unless, leave_where, return_values,
 };
+use crate::fresh::{declare_all, declare_later, first_store};
 use crate::sets::{note_sets, note_var};
-use go_core::node::{CoreExpr, PlaceForm, VarId};
-use go_core::statement::{CoreClauses, CoreStmt, CoreStmtForm, CoreStmts, CoreTest, Label, Target};
+use go_core::node::{CoreExpr, VarId};
+use go_core::statement::{CoreClauses, CoreStmt, CoreStmtForm, CoreStmts, CoreTest, Label};
 use js_body::Body;
-use js_pool::{ExprId, Name, Node, Stmt};
+use js_pool::ExprId;
 use js_values::expr::{expr, exprs};
 use js_values::ranges::{Range, begin_range, has_next, take_next};
 use js_values::simple::simple;
@@ -142,108 +148,33 @@ fn chosen<'p>(b: &mut Body<'p>, clauses: &'p CoreClauses, label: Label, c: Claus
 // A statement that `break` can leave.
 #[cycle(stmt)]
 fn labeled<'p>(b: &mut Body<'p>, label: Label, body: &'p CoreStmts) {
-    let end = b.fresh(1);
-    let mark = b.pool.open();
-    b.enter_label(label, end, end);
+    let l = begin_labeled(b, label);
     stmts(b, body);
-    b.leave_label();
-    close_at(b, mark, end);
+    end_labeled(b, l);
 }
 
 // ---- what holds no statements
 
-// A variable that is neither boxed nor in an array of its own is declared when a statement comes that needs it.
-fn declare_later(b: &mut Body<'_>, fresh: &mut Vec<VarId>, v: VarId) {
-    let h = b.home(v);
-    if h.boxed || b.is_block(h.ty) {
-        return b.declare(v);
-    }
-    if fresh.push(v).is_err() {
-        b.pool.failed = true;
-    }
-}
-
-fn declare_all(b: &mut Body<'_>, fresh: &mut Vec<VarId>) {
-    for v in fresh.as_slice() {
-        b.declare(*v);
-    }
-    fresh.truncate(0);
-}
-
-// An assignment after fresh variables: those that it sets, and doesn't read, need no zero before.
-fn first_store<'p>(b: &mut Body<'p>, s: &'p CoreStmt, targets: &'p [Target], fresh: &[VarId]) {
-    let from = b.pool.nodes.len();
-    let mark = b.pool.open();
-    let begun = b.pool.lines.len();
-    simple(b, s);
-    let to = b.pool.nodes.len();
-    let mut unset = Vec::new(b.pool.alloc);
-    for v in fresh {
-        if sets(targets, *v) && !is_read(b, *v, from, to) {
-            declare_where_set(b, *v, begun);
-        } else if unset.push(*v).is_err() {
-            b.pool.failed = true;
-        }
-    }
-    let block = b.pool.close(mark);
-    declare_all(b, &mut unset);
-    b.pool.include(block);
-}
-
-// The statement since these that sets a fresh variable declares it.
-fn declare_where_set(b: &mut Body<'_>, v: VarId, begun: usize) {
-    let slot = b.home(v).slot;
-    for i in begun..b.pool.lines.len() {
-        if let Some(line) = b.pool.lines.as_mut_slice().get_mut(i) {
-            *line = declaring(*line, slot);
-        }
+fn is_if(s: &CoreStmt) -> bool
+    ensures { (ts : List Ty) → result ≡ is_if (stmt_view ts s.now) }
+{
+    match &*s.form {
+        CoreStmtForm::If {
+            condition: _,
+            when_true: _,
+            when_false: _,
+        } => true,
+        _ => false,
     }
 }
 
-// A statement that sets the variable of a slot as its declaration.
-fn declaring(line: Stmt, slot: u32) -> Stmt {
-    if let Stmt::Assign(Name::Numbered(word, n), e) = line
-        && n == slot
-        && *word == *b"$v".as_slice()
-    {
-        return Stmt::Declare(Name::Numbered(word, n), e);
+fn is_one_if(list: &CoreStmts) -> bool
+    ensures { (ts : List Ty) → result ≡ is_one_if (stmts_view ts list.now) }
+{
+    match list.items.as_slice() {
+        [only] => is_if(only),
+        _ => false,
     }
-    line
-}
-
-fn sets(targets: &[Target], v: VarId) -> bool {
-    for t in targets {
-        if let Target::Place { place, .. } = t
-            && let PlaceForm::Local(x) = &*place.form
-            && *x == v
-        {
-            return true;
-        }
-    }
-    false
-}
-
-// Whether expressions with these numbers name a variable's slot.
-fn is_read(b: &Body<'_>, v: VarId, from: usize, to: usize) -> bool {
-    let slot = b.home(v).slot;
-    for i in from..to {
-        if let Some(Node::Name(Name::Numbered(word, n))) = b.pool.nodes.get(i)
-            && *n == slot
-            && *word == b"$v".as_slice()
-        {
-            return true;
-        }
-    }
-    false
-}
-
-fn is_one_if(list: &CoreStmts) -> bool {
-    if let [only] = list.items.as_slice()
-        && let CoreStmtForm::If { .. } = &*only.form
-    {
-        return true;
-    }
-    false
 }
 
 // Statements that leave others.
