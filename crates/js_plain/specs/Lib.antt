@@ -1,5 +1,4 @@
 pub mod Control
 pub mod Fresh
 pub mod Lines
-pub mod Stmts
 pub mod Whole
