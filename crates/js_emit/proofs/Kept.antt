@@ -34,7 +34,7 @@ choose : (b : Bool) (x : Item) (us vs ws : List Item) → us ≡ vs ++ ws → co
 choose true x us vs ws e = ap (λ zs. x ∷ zs) e
 choose false x us vs ws e = e
 
-kept_snoc : (keeps : ℕ → Bool) (n : ℕ) (xs : List Item) (x : Item) → kept keeps n (xs ++ x ∷ []) ≡ kept keeps n xs ++ cond (keeps (n + length xs)) (x ∷ []) []
+pub kept_snoc : (keeps : ℕ → Bool) (n : ℕ) (xs : List Item) (x : Item) → kept keeps n (xs ++ x ∷ []) ≡ kept keeps n xs ++ cond (keeps (n + length xs)) (x ∷ []) []
 kept_snoc keeps n [] x = rw (add-zero n) refl
 kept_snoc keeps n (y ∷ xs) x =
     let e : n + suc (length xs) ≡ suc n + length xs = omega arith in

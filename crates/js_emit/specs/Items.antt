@@ -1,10 +1,16 @@
 -- The items of a script that stand behind the parts of the library.
 use Rattle.std.specs.Prelude.{◌≡◌, ◌==◌, ℕ, suc, ◌+◌, List, [], ◌∷◌, ◌++◌, Bool, false, ◌||◌, if◌then◌else◌, length, map, unwrap_or}
 use Rattle.std.specs.List.{slice_get}
+use Rattle.js_tree.specs.Script as script
 use Rattle.js_tree.specs.View.{item_view}
 use Rattle.js_tree.specs.declared.tree.JsItem.{JsItem}
+use Rattle.js_pool.specs.Names.{name_bytes}
 use Rattle.js_pool.specs.Says.{AllTop}
+use Rattle.js_pool.specs.declared.name.Name.{Name}
+use Rattle.js_pool.specs.declared.node.Names.{Names}
+use Rattle.js_pool.specs.declared.node.Block.{Block}
 use Rattle.js_pool.specs.declared.node.Item.{Item}
+use Rattle.js_pool.specs.declared.node.Item.TheVariants as item
 use Rattle.js_pool.specs.declared.pool.Pool.{Pool}
 
 -- whether the item with a number is among those that are reached
@@ -30,3 +36,11 @@ AddsOne p keeps x before after = AddsTrees p (if keeps then x ∷ [] else []) be
 -- the trees of the items of the tables that are kept are added, in order
 abbrev pub AddsKept : Pool → List Bool → List JsItem → List JsItem → Type 0
 AddsKept p reached before after = AddsTrees p (kept (is_kept reached (length p.items.items)) 0 p.items.items) before after
+
+-- the last item is a function of this name
+abbrev pub EndsWith : Pool → List ℕ → Type 0
+EndsWith p x = (xs : List Item) × (f : Name) × (l : Names) × (b : Block) × (name_bytes f ≡ x) × (p.items.items ≡ xs ++ item.Function f l b ∷ [])
+
+-- the last of a script's items is a function of this name
+abbrev pub IsLast : List JsItem → List ℕ → Type 0
+IsLast made x = (before : List JsItem) × (last : JsItem) × (f : script.Function) × (made ≡ before ++ last ∷ []) × (item_view last ≡ script.function_item f) × (f.name ≡ x)

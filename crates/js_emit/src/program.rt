@@ -1,8 +1,8 @@
 //! From a program to its script.
 
-ghost use Rattle.std.specs.Prelude.{List, IfOk};
+ghost use Rattle.std.specs.Prelude.{List, IfOk, codes};
 ghost use Rattle.js_tree.specs.declared.tree.JsItem.{JsItem};
-ghost use Rattle.js_emit.specs.Items.{AddsKept};
+ghost use Rattle.js_emit.specs.Items.{AddsKept, EndsWith, IsLast};
 
 use crate::classes::join_tagged;
 use crate::direct::{add_direct_init, is_direct};
@@ -50,7 +50,9 @@ pub fn emit(
     program: &Program,
     order: &InitSteps,
     marks: &FuncSet,
-) -> Result<Script, EmitRefusal> {
+) -> Result<Script, EmitRefusal>
+    ensures last { IfOk result (λ s. IsLast s.items.items s.start) }
+{
     let mut facts = Facts::new(alloc, program, marks)?;
     join_tagged(alloc, &mut facts)?;
     let mut b = Body::new(Pool::new(alloc), facts);
@@ -109,7 +111,8 @@ fn add_rows(b: &mut Body<'_>) {
 
 // The parts of the library, what is reached, and `$start`, which is the last item.
 fn script_of(alloc: Global, b: &Body<'_>, reach: &Reach) -> Result<Script, EmitRefusal>
-    ensures { IfOk result (λ s. (parts : List JsItem) × AddsKept b.now.pool reach.now.reached.items parts s.items.items) }
+    ensures kept { IfOk result (λ s. (parts : List JsItem) × AddsKept b.now.pool reach.now.reached.items parts s.items.items) }
+    ensures last { EndsWith b.now.pool (codes "$start") → IfOk result (λ s. IsLast s.items.items s.start) }
 {
     let mut items: Vec<JsItem> = Vec::new(alloc);
     reach.needs.add_items(&mut items)?;

@@ -1,5 +1,10 @@
 //! `$start`, with which a script begins.
 
+ghost use Rattle.std.specs.Prelude.{codes};
+ghost use Rattle.js_pool.specs.Stands.{Later};
+ghost use Rattle.js_pool.specs.declared.pool.Pool.{Pool};
+ghost use Rattle.js_emit.specs.Items.{EndsWith};
+
 use crate::reach::Reach;
 use crate::top::{fill_method, fill_predeclared, name_number, predeclared};
 use gj_base::NoMemory;
@@ -29,7 +34,9 @@ pub fn reach_direct(reach: &mut Reach, b: &Body<'_>) -> Result<(), NoMemory> {
 }
 
 /// Adds `$start`: methods are noted among those of their types, and the program begins.
-pub fn add_start(b: &mut Body<'_>, reach: &Reach, direct: bool) {
+pub fn add_start(b: &mut Body<'_>, reach: &Reach, direct: bool)
+    ensures { (end : Pool) → Later b.new.pool end → EndsWith b.new.pool (codes "$start") }
+{
     let mark = b.pool.open();
     fill_types(b, reach);
     fill_methods(b, reach);
