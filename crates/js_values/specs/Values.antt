@@ -93,6 +93,12 @@ denied s = on_last (unary Not) s
 abbrev pub text_pushed : List ℕ → State → State
 text_pushed b s = pushed_known known.Constant (tree.string b) s
 
+-- a string past the limit panics
+abbrev pub text_done : List ℕ → State → State
+text_done b s =
+    if nat_lt 268435456 (length b) then text_pushed [] (panicked (panic_tree 6) s)
+    else text_pushed b s
+
 -- a number of 64 bits without sign, or the two's complement of one with a sign
 abbrev pub wide_bits : ℤ → ℕ
 wide_bits (pos n) = if nat_lt n 18446744073709551616 then n else 0
@@ -100,6 +106,18 @@ wide_bits (negsuc n) = if nat_lt n 9223372036854775808 then 18446744073709551615
 
 abbrev pub wide_tree : ℕ → Expr
 wide_tree n = pair_tree (number (n / 4294967296)) (number (n % 4294967296))
+
+abbrev pub wide_pushed : ℤ → State → State
+wide_pushed n s = pushed (wide_tree (wide_bits n)) s
+
+-- the zero value of a type whose values are no structs and no arrays
+abbrev pub zero_done : How → State → State
+zero_done truth s = truth_pushed false s
+zero_done text s = text_pushed [] s
+zero_done (small k) s = number_pushed (pos 0) s
+zero_done (wide k) s = wide_pushed (pos 0) s
+zero_done block s = s
+zero_done other s = nil_pushed s
 
 -- ---- conversions
 

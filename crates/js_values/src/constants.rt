@@ -2,8 +2,11 @@
 
 ghost use Rattle.std.specs.Prelude.{◌≡◌, length, nat_lt};
 ghost use Rattle.js_pool.specs.Stands.{Grows, Builds};
+ghost use Rattle.js_facts.specs.Held.{how};
+ghost use Rattle.js_body.specs.State.{held_type};
 ghost use Rattle.js_body.specs.Tells.{Runs};
-ghost use Rattle.js_values.specs.Values.{text_pushed, wide_bits, wide_tree};
+ghost use Rattle.js_values.specs.Steps.{is_scalar, RunsWhen};
+ghost use Rattle.js_values.specs.Values.{zero_done, text_pushed, text_done, wide_bits, wide_tree, wide_pushed};
 
 use crate::strings::MOST_BYTES;
 use gj_base::Kind;
@@ -29,7 +32,9 @@ fn constant_at(b: &mut Body<'_>, kind: Kind, value: &Constant) {
 }
 
 // A string past the limit panics.
-fn text(b: &mut Body<'_>, s: &[u8]) {
+fn text(b: &mut Body<'_>, s: &[u8])
+    ensures { Runs b.old b.new (text_done s.now) }
+{
     if is_long(s) {
         b.panic(6);
         push_text(b, b"");
@@ -68,7 +73,9 @@ fn small_number(n: i128) -> i64 {
     }
 }
 
-fn wide(b: &mut Body<'_>, n: i128) {
+fn wide(b: &mut Body<'_>, n: i128)
+    ensures { Runs b.old b.new (wide_pushed n) }
+{
     let e = halves(&mut b.pool, wide_bits(n));
     b.push(e);
 }
@@ -95,12 +102,16 @@ fn halves(p: &mut Pool, bits: u64) -> ExprId
 }
 
 /// The zero value of a type.
-pub fn zero_value(b: &mut Body<'_>, t: TypeId) {
+pub fn zero_value(b: &mut Body<'_>, t: TypeId)
+    ensures { RunsWhen b.old b.new (λ s. is_scalar (held_type t s)) (λ s. zero_done (held_type t s) s) }
+{
     let held = b.held(t);
     zero_of(b, held, t);
 }
 
-fn zero_of(b: &mut Body<'_>, held: Held, t: TypeId) {
+fn zero_of(b: &mut Body<'_>, held: Held, t: TypeId)
+    ensures { RunsWhen b.old b.new (λ s. is_scalar (how held)) (zero_done (how held)) }
+{
     match held {
         Held::Truth => b.push_truth(false),
         Held::Small(_) => b.push_number(0),
