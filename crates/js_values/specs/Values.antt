@@ -3,6 +3,7 @@ use Rattle.std.specs.Prelude.{ℕ, zero, suc, ◌+◌, ◌-◌, ◌/◌, ◌%◌
 use Rattle.gj_base.specs.declared.kind.Kind.{Kind}
 use Rattle.gj_base.specs.declared.kind.Op.{Op}
 use Rattle.gj_base.specs.declared.kind.Op.TheVariants as op
+use Rattle.go_core.specs.CoreTree as core
 use Rattle.js_tree.specs.Script.{Expr}
 use Rattle.js_tree.specs.declared.tree.UnaryOp.TheVariants.{Not}
 use Rattle.js_tree.specs.declared.tree.BinaryOp.{BinaryOp}
@@ -42,6 +43,10 @@ encoded s = on_last encoded_tree s
 
 abbrev pub wide_encoded : State → State
 wide_encoded s = on_last wide_encoded_tree s
+
+-- the bytes or the runes of a string
+abbrev pub split_tree : Bool → Expr → Expr
+split_tree runes t = call (name (if runes then codes "$runes" else codes "$bytes")) (list1 t)
 
 -- the string of bytes or runes
 abbrev pub text_tree : Bool → Expr → Expr
@@ -93,6 +98,12 @@ denied s = on_last (unary Not) s
 abbrev pub text_pushed : List ℕ → State → State
 text_pushed b s = pushed_known known.Constant (tree.string b) s
 
+-- a string past the limit panics
+abbrev pub text_done : List ℕ → State → State
+text_done b s =
+    if nat_lt 268435456 (length b) then text_pushed [] (panicked (panic_tree 6) s)
+    else text_pushed b s
+
 -- a number of 64 bits without sign, or the two's complement of one with a sign
 abbrev pub wide_bits : ℤ → ℕ
 wide_bits (pos n) = if nat_lt n 18446744073709551616 then n else 0
@@ -100,6 +111,31 @@ wide_bits (negsuc n) = if nat_lt n 9223372036854775808 then 18446744073709551615
 
 abbrev pub wide_tree : ℕ → Expr
 wide_tree n = pair_tree (number (n / 4294967296)) (number (n % 4294967296))
+
+abbrev pub wide_pushed : ℤ → State → State
+wide_pushed n s = pushed (wide_tree (wide_bits n)) s
+
+-- a number of up to 32 bits
+abbrev pub small_number : ℤ → ℤ
+small_number (pos n) = if nat_le n 4294967296 then pos n else pos 0
+small_number (negsuc n) = if nat_lt n 4294967296 then negsuc n else pos 0
+
+abbrev pub number_done : Kind → ℤ → State → State
+number_done k n s = if has_halves k then wide_pushed n s else number_pushed (small_number n) s
+
+abbrev pub constant_done : Kind → core.Constant → State → State
+constant_done k (core.truth_constant b) s = truth_pushed b s
+constant_done k (core.text_constant b) s = text_done b s
+constant_done k (core.whole_constant n) s = number_done k n s
+
+-- the zero value of a type whose values are no structs and no arrays
+abbrev pub zero_done : How → State → State
+zero_done truth s = truth_pushed false s
+zero_done text s = text_pushed [] s
+zero_done (small k) s = number_pushed (pos 0) s
+zero_done (wide k) s = wide_pushed (pos 0) s
+zero_done block s = s
+zero_done other s = nil_pushed s
 
 -- ---- conversions
 

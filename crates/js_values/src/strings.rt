@@ -4,7 +4,7 @@
 ghost use Rattle.js_pool.specs.Stands.{Grows, Builds1, Builds2};
 ghost use Rattle.js_body.specs.Tells.{Runs, Runs2};
 ghost use Rattle.js_values.specs.Steps.{on_last};
-ghost use Rattle.js_values.specs.Values.{long_test, long_refused, concatenated, encoded, encoded_tree, wide_encoded, wide_encoded_tree, text_tree};
+ghost use Rattle.js_values.specs.Values.{long_test, long_refused, concatenated, encoded, encoded_tree, wide_encoded, wide_encoded_tree, split_tree, text_tree};
 
 use crate::numbers::low_or;
 use gj_base::Kind;
@@ -101,7 +101,7 @@ pub fn split(b: &mut Body<'_>, to: TypeId)
 }
 
 fn split_as(b: &mut Body<'_>, runes: bool)
-    ensures { Grows b.old.pool b.new.pool }
+    ensures { Runs b.old b.new (on_last (split_tree runes)) }
 {
     let x = b.pop();
     let word: &'static [u8] = if runes { b"$runes" } else { b"$bytes" };

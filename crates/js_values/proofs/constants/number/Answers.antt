@@ -1,0 +1,16 @@
+use Rattle.std.proofs.Common.{subst}
+use Rattle.js_int.specs.Kinds.{has_halves}
+use Rattle.js_body.specs.State.{State, number_pushed}
+use Rattle.js_body.specs.Tells.{Runs}
+use Rattle.js_values.specs.Steps.{then_done, else_done}
+use Rattle.js_values.specs.Values.{wide_pushed, small_number}
+use Rattle.js_values.proofs.constants.number.Goals as goal
+
+pub returns-then-is_wide : goal.returns-then-is_wide
+returns-then-is_wide c =
+    then_done c.args.b.now c.wide.new.b c.is_wide.result (λ (s : State). has_halves c.args.kind) (wide_pushed c.args.n) (number_pushed (small_number c.args.n)) (λ s t. c.is_wide.ensures) c.if-is_wide.true c.wide.ensures
+
+pub returns-else-is_wide : goal.returns-else-is_wide
+returns-else-is_wide c =
+    else_done c.args.b.now c.push_number.new.self c.is_wide.result (λ (s : State). has_halves c.args.kind) (wide_pushed c.args.n) (number_pushed (small_number c.args.n)) (λ s t. c.is_wide.ensures) c.if-is_wide.false
+    (subst (λ n. Runs c.args.b.now c.push_number.new.self (number_pushed n)) c.small_number.ensures c.push_number.ensures)
