@@ -1,8 +1,0 @@
-pub mod OverLemmas
-pub mod PlaysLemmas
-pub mod RecoverLemmas
-pub mod TaskLemmas
-pub mod EndLemmas
-pub mod StepLemmas
-pub mod TurnLemmas
-pub mod RunLemmas

@@ -1,4 +1,0 @@
-pub mod SlicesFound
-pub mod MapsFound
-pub mod Seen
-pub mod CompositesFound

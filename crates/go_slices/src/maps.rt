@@ -1,3 +1,0 @@
-//! Steps on maps, in code.
-
-pub mod maps;
