@@ -2,7 +2,7 @@
 """usage: both.py PROGRAM [FOLDER ...]
 
 The two checkers of PROGRAM against one another. The program of each folder below a FOLDER, and where none is given those of
-crates/cases/data and examples, is built as it is, so that the checker of scalars answers where it can, and once more with a first
+crates/gopherjs/data and examples, is built as it is, so that the checker of scalars answers where it can, and once more with a first
 file in which a struct stands, so that the other one answers. What is told must be the same, but for what is told at the start of
 the first file. Ends with status 1 where it isn't.
 """

@@ -1,7 +1,7 @@
 #!/usr/bin/env python3
 """usage: mutated.py PROGRAM [SEED [COUNT]]
 
-Builds COUNT programs that are those of crates/cases/data and examples with one to four tokens deleted, doubled, swapped or
+Builds COUNT programs that are those of crates/gopherjs/data and examples with one to four tokens deleted, doubled, swapped or
 replaced, often by one of their kind, and looks at each answer: a script, or one line that tells a fault at a place of a file that is there. What was made
 must be a script for node. Ends with status 1 where an answer is another one, or none within a minute, and leaves such programs in
 the folder that it names.

@@ -1,10 +1,10 @@
-"""The Go programs of crates/cases/data and of examples."""
+"""The Go programs of crates/gopherjs/data and of examples."""
 
 import os
 import re
 
 HERE = os.path.dirname(os.path.realpath(__file__))
-DATA, EXAMPLES = HERE + "/../../crates/cases/data", HERE + "/../../examples"
+DATA, EXAMPLES = HERE + "/../../crates/gopherjs/data", HERE + "/../../examples"
 
 
 def cases():

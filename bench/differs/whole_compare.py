@@ -1,6 +1,6 @@
 """whole_compare.py GOPHERJS FOLDER [PLAYER]: runs each program of FOLDER, as whole.py wrote it, by the Go toolchain, the
 script that `gopherjs build` stores by node, and one of four by `gopherjs run` too, and prints where they differ. With
-PLAYER, a built go_player, each is played by Go's meaning as well. What the toolchain makes of them is kept in the
+PLAYER, a built go_player (bench/played), each is played by Go's meaning as well. What the toolchain makes of them is kept in the
 folder; the word `go` in place of the program asks for no more than that."""
 import os
 import pickle

@@ -1,7 +1,7 @@
 #!/usr/bin/env python3
 """usage: cases.py PLAYER DATA [GOPHERJS]
 
-Plays each case of DATA (crates/cases/data) that runs a Go program, and prints where what it prints and how it ends are
+Plays each case of DATA (crates/gopherjs/data) that runs a Go program, and prints where what it prints and how it ends are
 not what the case says, which runs are too long to be kept, and how many cases are not played, by reason.  With GOPHERJS
 it also tells how many ticks the stored scripts take for the units of the played runs: the greatest ratios.
 """
