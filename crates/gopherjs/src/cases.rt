@@ -8,7 +8,7 @@ mod verdict;
 use crate::cases::verdict::check;
 use gj_base::Sink;
 use gj_cases::case::Case;
-use gj_cases::differs::Failed;
+use gj_cases::differs::{Failed, differs, same};
 use gj_cases::folder::cases_here;
 use gj_command::outcome::Outcome;
 use gj_command::refusal::{out_of_memory, read_failed, written};
@@ -74,11 +74,23 @@ fn lines(alloc: Global, cases: &[Case]) -> io::Result<(String, u32)> {
 
 // The line of a case that doesn't hold.
 fn line_of(alloc: Global, case: &Case) -> io::Result<Option<String>> {
-    let words = match check(alloc, case) {
+    let words = match holds(alloc, case) {
         Ok(()) => return Ok(None),
         Err(Failed::Differs(text)) => String::from_utf8_lossy(alloc, text.as_bytes())?,
         Err(Failed::NoMemory) => String::from_str(alloc, "out of memory")?,
     };
     let name = String::from_utf8_lossy(alloc, case.name.as_bytes())?;
     Ok(Some(format!(in alloc; "{}: {}\n", name.as_str(), words.as_str())?))
+}
+
+// The case holds, or differs in the words of its file `differs`.
+fn holds(alloc: Global, case: &Case) -> Result<(), Failed> {
+    let Some(words) = case.bytes(b"differs") else {
+        return check(alloc, case);
+    };
+    match check(alloc, case) {
+        Ok(()) => Err(differs(alloc, b"the case", b" holds")),
+        Err(Failed::Differs(text)) => same(alloc, b"the difference", words, text.as_bytes()),
+        Err(failed) => Err(failed),
+    }
 }
