@@ -1,9 +1,10 @@
 -- Integers: what operations on the last values make of a body's state.
-use Rattle.std.specs.Prelude.{ℕ, ℤ, pos, negsuc, Bool, true, false, not, if◌then◌else◌}
+use Rattle.std.specs.Prelude.{ℕ, ℤ, pos, negsuc, min, Bool, true, false, not, if◌then◌else◌, Option, Some, None}
 use Rattle.std.specs.Ordering.{int_eq}
 use Rattle.gj_base.specs.declared.kind.Kind.{Kind}
 use Rattle.gj_base.specs.declared.kind.Op.{Op}
 use Rattle.gj_base.specs.declared.kind.Op.TheVariants as op
+use Rattle.go_core.specs.CoreTree as core
 use Rattle.js_tree.specs.Script.{Expr}
 use Rattle.js_tree.specs.declared.tree.BinaryOp.TheVariants.{Less, GreaterEqual, Same}
 use Rattle.js_pool.specs.Tree.{number, binary, both, choice, whole_tree}
@@ -57,6 +58,11 @@ binary_done o k s = lowered o k (guarded o k s)
 
 -- ---- counts of shifts
 
+-- a constant cut to 32 bits, where it isn't negative
+abbrev pub constant_count : core.Expr → Option ℤ
+constant_count (core.constant t (core.whole_constant (pos n))) = Some (pos (min n 4294967295))
+constant_count _ = None
+
 abbrev pub negative_test : Kind → Expr → Expr
 negative_test k t = if has_halves k then binary GreaterEqual (half_of 0 t) (number 2147483648) else binary Less t (number 0)
 
@@ -86,6 +92,10 @@ size_tree k t = low_or (past_tree k t) t
 -- the last value as a number
 abbrev pub sized : Kind → State → State
 sized k s = if has_halves k then on_last (size_tree k) s else s
+
+-- the low 32 bits
+abbrev pub low_tree : Kind → Expr → Expr
+low_tree k t = if has_halves k then half_of 1 t else t
 
 -- ---- conversions
 

@@ -10,7 +10,7 @@ use Rattle.js_facts.specs.Held.{How, truth, text, small, wide, block, other, is_
 use Rattle.js_body.specs.declared.body.Body.{Body}
 use Rattle.js_body.specs.declared.body.Operand.{Operand}
 use Rattle.js_body.specs.State.{State, last_value, popped, pushed, held_type}
-use Rattle.js_body.specs.Tells.{PartsTell, ValueIs, Tells, Lasts, Runs, Runs2, GivesValue, around}
+use Rattle.js_body.specs.Tells.{PartsTell, ValueIs, Tells, Lasts, Runs, Runs1, Runs2, Gives2, GivesValue, around}
 use Rattle.js_body.specs.Later.{itself, stands_later}
 use Rattle.js_body.specs.StepLaws.{earlier, from_here, parts_kept, if_true, if_false}
 
@@ -126,6 +126,22 @@ two_done_after b b1 b2 b3 p q y x r h f gy gx d m k = (
       let z = h (last_value (popped s)).tree (last_value s).tree (popped (popped s)) in
       k.1 l (f (last_value (popped s)).tree (last_value s).tree) (m.1 p (itself p l4) (last_value (popped s)).tree (last_value s).tree (stands_later g vx.0.stands) (stands_later g hy)) z
       (parts_kept b3.pool p b3.stack.items b3.temps b3.declared.items (around b3) z m.0 l4 a),
+)
+
+-- likewise, where what is done gives what is built
+pub two_given : (b b1 b2 b3 : Body) (q : Body) (y x : Operand) (r : ExprId) (h : Expr → Expr → State → State) (f : Expr → Expr → Expr)
+    → GivesValue b b1 y last_value popped → GivesValue b1 b2 x last_value popped → Gives2 b2 b3 x.e y.e r (λ t u s. f t u) h → Runs1 b3 q r pushed → Runs b q (on_two_after h f)
+two_given b b1 b2 b3 q y x r h f gy gx d k = (
+  λ end g. gy.0 end (gx.0 end (d.0 end (k.0 end g))),
+  λ l s t.
+      let l3 = earlier b3.pool q.pool k.0 l in
+      let l2 = earlier b2.pool b3.pool d.0 l3 in
+      let l1 = earlier b1.pool b2.pool gx.0 l2 in
+      let vy = gy.1 l1 s t in
+      let vx = gx.1 l2 (popped s) vy.1 in
+      let hy = stands_later (from_here b1.pool b2.pool gx.0 l2) vy.0.stands in
+      let a = d.1 l3 (last_value (popped s)).tree (last_value s).tree vx.0.stands hy (popped (popped s)) vx.1 in
+      k.1 l (f (last_value (popped s)).tree (last_value s).tree) a.0 (h (last_value (popped s)).tree (last_value s).tree (popped (popped s))) a.1,
 )
 
 -- something is built of two expressions, and something is done by that

@@ -1,9 +1,13 @@
 //! Constants and zero values: Go specification (as of Go 1.17), "Constants", "The zero value".
 
 ghost use Rattle.std.specs.Prelude.{◌≡◌, length, nat_lt};
+ghost use Rattle.go_core.specs.CoreView.{constant_of};
 ghost use Rattle.js_pool.specs.Stands.{Grows, Builds};
+ghost use Rattle.js_facts.specs.Held.{how};
+ghost use Rattle.js_body.specs.State.{held_type};
 ghost use Rattle.js_body.specs.Tells.{Runs};
-ghost use Rattle.js_values.specs.Values.{text_pushed, wide_bits, wide_tree};
+ghost use Rattle.js_values.specs.Steps.{type_kind, is_scalar, RunsWhen};
+ghost use Rattle.js_values.specs.Values.{zero_done, constant_done, text_pushed, text_done, number_done, small_number, wide_bits, wide_tree, wide_pushed};
 
 use crate::strings::MOST_BYTES;
 use gj_base::Kind;
@@ -15,12 +19,16 @@ use js_int::is_wide;
 use js_pool::{ExprId, Pool};
 
 /// A constant of a type.
-pub fn constant(b: &mut Body<'_>, t: TypeId, value: &Constant) {
+pub fn constant(b: &mut Body<'_>, t: TypeId, value: &Constant)
+    ensures { Runs b.old b.new (λ s. constant_done (type_kind t s) (constant_of value.now) s) }
+{
     let kind = b.int_kind(t);
     constant_at(b, kind, value);
 }
 
-fn constant_at(b: &mut Body<'_>, kind: Kind, value: &Constant) {
+fn constant_at(b: &mut Body<'_>, kind: Kind, value: &Constant)
+    ensures { Runs b.old b.new (constant_done kind (constant_of value.now)) }
+{
     match value {
         Constant::Bool(x) => b.push_truth(*x),
         Constant::Text(s) => text(b, s.as_bytes()),
@@ -29,7 +37,9 @@ fn constant_at(b: &mut Body<'_>, kind: Kind, value: &Constant) {
 }
 
 // A string past the limit panics.
-fn text(b: &mut Body<'_>, s: &[u8]) {
+fn text(b: &mut Body<'_>, s: &[u8])
+    ensures { Runs b.old b.new (text_done s.now) }
+{
     if is_long(s) {
         b.panic(6);
         push_text(b, b"");
@@ -52,7 +62,9 @@ fn push_text(b: &mut Body<'_>, s: &[u8])
 }
 
 // A whole number, which lies in the range of its kind.
-fn number(b: &mut Body<'_>, kind: Kind, n: i128) {
+fn number(b: &mut Body<'_>, kind: Kind, n: i128)
+    ensures { Runs b.old b.new (number_done kind n) }
+{
     if is_wide(kind) {
         wide(b, n);
     } else {
@@ -60,7 +72,9 @@ fn number(b: &mut Body<'_>, kind: Kind, n: i128) {
     }
 }
 
-fn small_number(n: i128) -> i64 {
+fn small_number(n: i128) -> i64
+    ensures { result ≡ small_number n }
+{
     if n < -4294967296 || n > 4294967296 {
         0
     } else {
@@ -68,7 +82,9 @@ fn small_number(n: i128) -> i64 {
     }
 }
 
-fn wide(b: &mut Body<'_>, n: i128) {
+fn wide(b: &mut Body<'_>, n: i128)
+    ensures { Runs b.old b.new (wide_pushed n) }
+{
     let e = halves(&mut b.pool, wide_bits(n));
     b.push(e);
 }
@@ -95,12 +111,16 @@ fn halves(p: &mut Pool, bits: u64) -> ExprId
 }
 
 /// The zero value of a type.
-pub fn zero_value(b: &mut Body<'_>, t: TypeId) {
+pub fn zero_value(b: &mut Body<'_>, t: TypeId)
+    ensures { RunsWhen b.old b.new (λ s. is_scalar (held_type t s)) (λ s. zero_done (held_type t s) s) }
+{
     let held = b.held(t);
     zero_of(b, held, t);
 }
 
-fn zero_of(b: &mut Body<'_>, held: Held, t: TypeId) {
+fn zero_of(b: &mut Body<'_>, held: Held, t: TypeId)
+    ensures { RunsWhen b.old b.new (λ s. is_scalar (how held)) (zero_done (how held)) }
+{
     match held {
         Held::Truth => b.push_truth(false),
         Held::Small(_) => b.push_number(0),

@@ -1,14 +1,17 @@
 //! Integers: Go specification (as of Go 1.17), "Arithmetic operators", "Conversions".
 
-ghost use Rattle.std.specs.Prelude.{◌≡◌, true, false, ◌&&◌, if◌then◌else◌};
+ghost use Rattle.std.specs.Prelude.{◌≡◌, true, false, List, ◌&&◌, if◌then◌else◌};
+ghost use Rattle.go_type.specs.Tree.{Ty};
+ghost use Rattle.go_core.specs.CoreTree as core;
+ghost use Rattle.go_core.specs.CoreView.{constant_of, expr_view};
 ghost use Rattle.js_pool.specs.Tree as tree;
 ghost use Rattle.js_pool.specs.Stands.{Builds1, Builds2};
 ghost use Rattle.js_facts.specs.Held.{how};
 ghost use Rattle.js_body.specs.State.{held_type};
-ghost use Rattle.js_body.specs.Tells.{Runs};
+ghost use Rattle.js_body.specs.Tells.{Runs, Gives1};
 ghost use Rattle.js_values.specs.Steps.{type_kind, kind_in, is_scalar, RunsWhen};
 ghost use Rattle.js_values.specs.Values.{is_text, character_encoded, number_converted, converted};
-ghost use Rattle.js_values.specs.Numbers.{lowered, unary_done, binary_done, is_division, guarded, is_nonzero, half_is_zero, zero_test, zero_refused, counted, negative_test, negative_refused, low_or, count_cut, past_tree, size_tree, sized, int_converted};
+ghost use Rattle.js_values.specs.Numbers.{constant_count, lowered, unary_done, binary_done, is_division, guarded, is_nonzero, half_is_zero, zero_test, zero_refused, counted, negative_test, negative_refused, low_or, count_cut, past_tree, size_tree, sized, low_tree, int_converted};
 
 use crate::strings::{encode, encode_wide, join, split};
 use gj_base::{Kind, Op};
@@ -128,21 +131,33 @@ fn half_is_zero(p: &mut Pool, e: ExprId, i: u64) -> ExprId
 // ---- counts of shifts
 
 /// The count of a shift that is a constant, cut to 32 bits; none where it is negative or no constant.
-pub fn constant_count(e: &CoreExpr) -> Option<i64> {
+pub fn constant_count(e: &CoreExpr) -> Option<i64>
+    ensures { (ts : List Ty) → result ≡ constant_count (expr_view ts e.now) }
+{
     match &*e.form {
-        CoreForm::Const {
-            value: Constant::Int(n),
-            ..
-        } => {
-            if *n < 0 {
-                return None;
-            }
-            if *n > 4294967295 {
-                return Some(MOST_COUNT);
-            }
-            Some(*n as i64)
-        }
+        CoreForm::Const { value, .. } => count_in(value),
         _ => None,
+    }
+}
+
+fn count_in(value: &Constant) -> Option<i64>
+    ensures { (t : Ty) → result ≡ constant_count (core.constant t (constant_of value.now)) }
+{
+    match value {
+        Constant::Int(n) => cut_to_32(*n),
+        _ => None,
+    }
+}
+
+fn cut_to_32(n: i128) -> Option<i64>
+    ensures { (t : Ty) → result ≡ constant_count (core.constant t (core.whole_constant n)) }
+{
+    if n < 0 {
+        None
+    } else if n > 4294967295 {
+        Some(MOST_COUNT)
+    } else {
+        Some(n as i64)
     }
 }
 
@@ -253,11 +268,17 @@ fn past(p: &mut Pool, kind: Kind, e: ExprId) -> ExprId
 }
 
 /// The low 32 bits of an operand.
-pub fn low_bits(b: &mut Body<'_>, o: Operand, t: TypeId) -> ExprId {
-    if is_wide(b.int_kind(t)) {
-        return b.pool.at(o.e, 1);
-    }
-    o.e
+pub fn low_bits(b: &mut Body<'_>, o: Operand, t: TypeId) -> ExprId
+    ensures { Gives1 b.old b.new o.e result (λ u s. low_tree (type_kind t s) u) (λ u s. s) }
+{
+    let kind = b.int_kind(t);
+    low_part(&mut b.pool, kind, o.e)
+}
+
+fn low_part(p: &mut Pool, kind: Kind, e: ExprId) -> ExprId
+    ensures { Builds1 p.old p.new result e (low_tree kind) }
+{
+    if is_wide(kind) { p.at(e, 1) } else { e }
 }
 
 // ---- conversions

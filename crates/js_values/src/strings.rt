@@ -2,14 +2,14 @@
 //! and from a string type".
 
 ghost use Rattle.js_pool.specs.Stands.{Grows, Builds1, Builds2};
-ghost use Rattle.js_body.specs.Tells.{Runs, Runs2};
+ghost use Rattle.js_body.specs.Tells.{Runs, Runs2, Gives2};
 ghost use Rattle.js_values.specs.Steps.{on_last};
-ghost use Rattle.js_values.specs.Values.{long_test, long_refused, concatenated, encoded, encoded_tree, wide_encoded, wide_encoded_tree, text_tree};
+ghost use Rattle.js_values.specs.Values.{long_test, long_refused, concatenated, encoded, encoded_tree, wide_encoded, wide_encoded_tree, byte_tree, byte_refused, byte_read, text_tree};
 
 use crate::numbers::low_or;
 use gj_base::Kind;
 use go_type::types::TypeId;
-use js_body::Body;
+use js_body::{Body, Operand};
 use js_facts::Held;
 use js_facts::held::element;
 use js_pool::{ExprId, Pool};
@@ -47,13 +47,21 @@ fn is_long(p: &mut Pool, x: ExprId, y: ExprId) -> ExprId
 }
 
 /// The byte of a string, the last value but one, at an index of this kind.
-pub fn byte_at(b: &mut Body<'_>, kind: Kind) {
+pub fn byte_at(b: &mut Body<'_>, kind: Kind)
+    ensures { Runs b.old b.new (byte_read kind) }
+{
     let i = b.pop();
     let s = b.pop();
-    let n = b.pool.length(s.e);
-    let i = b.within(kind, i, n);
-    let e = b.pool.char_code_at(s.e, i);
+    let e = byte_of(b, kind, s.e, i);
     b.push(e);
+}
+
+fn byte_of(b: &mut Body<'_>, kind: Kind, s: ExprId, i: Operand) -> ExprId
+    ensures { Gives2 b.old b.new s i.e result (λ t u r. byte_tree kind t u) (byte_refused kind) }
+{
+    let n = b.pool.length(s);
+    let i = b.within(kind, i, n);
+    b.pool.char_code_at(s, i)
 }
 
 // ---- conversions
