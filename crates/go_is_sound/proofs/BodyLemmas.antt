@@ -10,13 +10,12 @@ use Rattle.go_type.specs.Table.{places}
 use Rattle.go_type.specs.declared.types.TypeId.{TypeId}
 use Rattle.go_core.specs.declared.node.Var as declared
 use Rattle.go_core.specs.declared.node.VarId.{VarId}
-use Rattle.go_core.specs.declared.program.MethodRow as rows
 use Rattle.go_core.specs.declared.node.CoreExpr.{CoreExpr}
 use Rattle.go_core.specs.declared.statement.CoreStmts.{CoreStmts}
 use Rattle.go_core.specs.declared.program.Func.{Func}
 use Rattle.go_core.specs.declared.program.Program.{Program}
-use Rattle.go_core.specs.CoreTree.{Var, MethodRow}
-use Rattle.go_core.specs.CoreView.{expr_view, stmts_view, func_view, id_of, method_row_view, program_view, var_of}
+use Rattle.go_core.specs.CoreTree.{Var}
+use Rattle.go_core.specs.CoreView.{expr_view, stmts_view, func_view, id_of, program_view, var_of}
 use Rattle.go_core.specs.TypeOf.{listed_types}
 use Rattle.go_core.specs.SoundNode.{Around, IsGoodType, IsRowOf, types_of_vars}
 use Rattle.go_core.specs.Sound.{SoundExpr, SoundStmts}
@@ -25,7 +24,7 @@ use Rattle.go_sound_nodes.specs.declared.judge.Judge.{Judge}
 use Rattle.go_sound_nodes.specs.declared.round.Round.{Round}
 use Rattle.go_sound_nodes.specs.Around.{around, program_in, trees_in}
 use Rattle.go_is_sound.specs.Bodies.{AreCaptured, CapturedSoFar, HasBody, IsCaptured, Pushes, head_around}
-use Rattle.go_is_sound.proofs.ListLemmas.{here, later, onto_mapped}
+use Rattle.go_is_sound.proofs.ListLemmas.{onto_mapped}
 use Rattle.go_is_sound.specs.Functions.{Begins, OwnFrom, AreReceivers, IsKind}
 
 -- ---- what variables begin with
@@ -81,20 +80,6 @@ own_one ts vs v rest true e f =
 
 pub own_all : (m : Bool) (a b c d : List Var) (us ws : List Ty) → OwnFrom m a b [] → Begins b c us → Begins c d ws → OwnFrom m a d (us ++ ws)
 own_all m a b c d us ws h k l = own_more m a c d us ws (own_more m a b c [] us h k) l
-
--- ---- rows that lead to a function
-
-pub leads_here : (ts : List Ty) (rs : List rows.MethodRow) (r : rows.MethodRow) (others : List rows.MethodRow) (k : ℕ) → rs ≡ r ∷ others → r.func.0 ≡ k
-    → (row : MethodRow) × Contains (map (method_row_view ts) rs) row × (row.func ≡ k)
-leads_here ts rs r others k e h =
-    subst (λ (xs : List rows.MethodRow). (row : MethodRow) × Contains (map (method_row_view ts) xs) row × (row.func ≡ k)) (sym e)
-    (method_row_view ts r, here (method_row_view ts r) (map (method_row_view ts) others), h)
-
-pub leads_later : (ts : List Ty) (rs : List rows.MethodRow) (r : rows.MethodRow) (others : List rows.MethodRow) (k : ℕ) → rs ≡ r ∷ others
-    → (row : MethodRow) × Contains (map (method_row_view ts) others) row × (row.func ≡ k) → (row : MethodRow) × Contains (map (method_row_view ts) rs) row × (row.func ≡ k)
-leads_later ts rs r others k e h =
-    subst (λ (xs : List rows.MethodRow). (row : MethodRow) × Contains (map (method_row_view ts) xs) row × (row.func ≡ k)) (sym e)
-    (h.0, later (method_row_view ts r) h.0 (map (method_row_view ts) others) h.1, h.2)
 
 -- ---- captured variables
 

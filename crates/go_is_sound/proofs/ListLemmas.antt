@@ -2,37 +2,15 @@
 use Rattle.std.proofs.Common.{◌⊎◌, inl, inr, refl, sym, ap, ◌∙◌, subst, arith, append_assoc}
 use Rattle.std.specs.Prelude.{◌≡◌, ◌<◌, ◌+◌, ℕ, zero, suc, List, [], ◌∷◌, ◌++◌, length, map, drop, get_or, Bool, true, Option, Some, None, Result, Ok, Err, IfOk, IfSome, slice_get, Contains, All, AllPairs}
 use Rattle.std.specs.List.{AllByRecursion}
+use Rattle.std.proofs.Math.ListN.{set}
 use Rattle.std.proofs.lemmas.List.{map-append, length-map, drop_more}
 use Rattle.std.proofs.lemmas.List.Elements.{All-from_recursion, All-map, Contains-append_right}
 use Rattle.std.proofs.lemmas.List.Kept.{AllPairs-cons}
 use Rattle.std.proofs.lemmas.Option.{slice_get-get_or}
+use Rattle.go_sound_parts.proofs.RowLemmas.{got_of_map}
 
 pub some_one : {A : Type 0} (x y : A) → Some x ≡ Some y → x ≡ y
 some_one x y h = cc
-
-last_or : (k i : ℕ) → k < i + 1 → (k < i) ⊎ (k ≡ i)
-last_or zero zero h = inr refl
-last_or zero (suc i) h = inl (omega arith)
-last_or (suc k) zero h = absurd (omega arith)
-last_or (suc k) (suc i) h = one_more (last_or k i (omega arith))
-  where
-    one_more : (k < i) ⊎ (k ≡ i) → (suc k < suc i) ⊎ (suc k ≡ suc i)
-    one_more (inl l) = inl (omega arith)
-    one_more (inr e) = inr (ap suc e)
-
--- what holds below a place and there holds below the next one
-pub up_to : (P : ℕ → Type 0) (i : ℕ) → ((k : ℕ) → k < i → P k) → P i → (k : ℕ) → k < i + 1 → P k
-up_to P i f h k l = by_place (last_or k i l)
-  where
-    by_place : (k < i) ⊎ (k ≡ i) → P k
-    by_place (inl m) = f k m
-    by_place (inr e) = subst P (sym e) h
-
--- what a mapped list has at a place
-pub got_of_map : {A B : Type 0} (f : A → B) (xs : List A) (k : ℕ) (y : B) → slice_get (map f xs) k ≡ Some y → (x : A) × (slice_get xs k ≡ Some x) × (f x ≡ y)
-got_of_map f [] k y h = absurd (cc)
-got_of_map f (z ∷ zs) zero y h = (z, refl, some_one (f z) y h)
-got_of_map f (z ∷ zs) (suc k) y h = got_of_map f zs k y h
 
 -- what a list contains stands at a place
 pub got_of_contains : {A : Type 0} (xs : List A) (x : A) → Contains xs x → (k : ℕ) × (slice_get xs k ≡ Some x)
@@ -43,6 +21,32 @@ contains_of_map f xs y c =
     let g = got_of_contains (map f xs) y c in
     let h = got_of_map f xs g.0 y g.1 in
     (h.0, g.0, h.1, h.2)
+
+pub later : {A : Type 0} (x y : A) (xs : List A) → Contains xs y → Contains (x ∷ xs) y
+later x y xs c = Contains-append_right (x ∷ []) xs y c
+
+-- what stands at a place is in the list, and at that place of a mapped one
+pub contains_got : {A : Type 0} (xs : List A) (k : ℕ) (x : A) → slice_get xs k ≡ Some x → Contains xs x
+contains_got [] k x h = absurd (cc)
+contains_got (z ∷ zs) zero x h = (0, omega arith, some_one z x h)
+contains_got (z ∷ zs) (suc k) x h = later z x zs (contains_got zs k x h)
+
+pub got_mapped : {A B : Type 0} (f : A → B) (xs : List A) (k : ℕ) (x : A) → slice_get xs k ≡ Some x → slice_get (map f xs) k ≡ Some (f x)
+got_mapped {A} {B} f [] k x h = absurd (cc)
+got_mapped {A} {B} f (z ∷ zs) zero x h = ap (λ (y : A). Some (f y)) (some_one z x h)
+got_mapped {A} {B} f (z ∷ zs) (suc k) x h = got_mapped f zs k x h
+
+-- after one mark is set
+pub got_set : (marks : List Bool) (at i : ℕ) → slice_get (set marks at true) i ≡ Some true → (i ≡ at) ⊎ (slice_get marks i ≡ Some true)
+got_set [] at i h = inr h
+got_set (b ∷ bs) zero zero h = inl refl
+got_set (b ∷ bs) zero (suc i) h = inr h
+got_set (b ∷ bs) (suc at) zero h = inr h
+got_set (b ∷ bs) (suc at) (suc i) h = one_more (got_set bs at i h)
+  where
+    one_more : (i ≡ at) ⊎ (slice_get bs i ≡ Some true) → (suc i ≡ suc at) ⊎ (slice_get bs i ≡ Some true)
+    one_more (inl e) = inl (ap suc e)
+    one_more (inr g) = inr g
 
 pub each_got : {A : Type 0} (P : A → Type 0) (xs : List A) (k : ℕ) (x : A) → AllByRecursion P xs → slice_get xs k ≡ Some x → P x
 each_got P [] k x h e = absurd (cc)
@@ -79,9 +83,6 @@ yes_then (Err x) A B f h = tt
 
 pub here : {A : Type 0} (x : A) (xs : List A) → Contains (x ∷ xs) x
 here x xs = (0, omega arith, refl)
-
-pub later : {A : Type 0} (x y : A) (xs : List A) → Contains xs y → Contains (x ∷ xs) y
-later x y xs c = Contains-append_right (x ∷ []) xs y c
 
 -- the first of a list differs from the others, and these from each other
 pub pairs_more : {A B : Type 0} (R : B → B → Type 0) (f : A → B) (xs : List A) (x : A) (others : List A) → xs ≡ x ∷ others

@@ -1,23 +1,27 @@
 -- Rows and method sets.
-use Rattle.std.proofs.Common.{inl, inr, sym, ap, ◌∙◌, subst, arith}
-use Rattle.std.specs.Prelude.{◌≡◌, ◌<◌, ℕ, List, [], ◌∷◌, Option, Some, map, slice_get, AllPairs}
+use Rattle.std.proofs.Common.{◌⊎◌, inl, inr, sym, ap, ◌∙◌, subst, arith}
+use Rattle.std.specs.Prelude.{◌≡◌, ◌<◌, ℕ, List, [], ◌∷◌, Bool, true, Option, Some, length, map, slice_get, AllPairs}
+use Rattle.std.proofs.Math.ListN.{set}
+use Rattle.std.proofs.lemmas.Option.{slice_get_within}
 use Rattle.std.specs.List.{AllByRecursion}
-use Rattle.go_type.specs.Tree.{Ty}
-use Rattle.go_type.specs.Levels.{tree_of}
+use Rattle.go_type.specs.Tree.{Ty, Tys}
+use Rattle.go_type.specs.Levels.{tree_of, trees_of}
 use Rattle.go_type.specs.Table.{places}
-use Rattle.go_type.specs.MethodList.{SpecTy, Among, IsMethodSet, spec_of}
+use Rattle.go_type.specs.MethodList.{SpecTy, Among, IsMethodOf, IsMethodSet, spec_of}
+use Rattle.go_type.specs.MethodSet.{HasMethod}
+use Rattle.go_type.specs.Members.{sought}
 use Rattle.go_type.specs.declared.types.MethodSpec.{MethodSpec}
 use Rattle.go_type.specs.declared.types.TypeId.{TypeId}
-use Rattle.go_core.specs.declared.program.MethodRow as declared
 use Rattle.go_core.specs.declared.program.Program.{Program}
-use Rattle.go_core.specs.CoreTree.{MethodName, MethodRow}
+use Rattle.go_core.specs.CoreTree.{MethodName, MethodRow, CoreProgram}
 use Rattle.go_core.specs.CoreView.{method_row_view, program_view}
 use Rattle.go_core.specs.StepInterfaces.{row_of}
 use Rattle.go_core.specs.SoundNode.{HasRow, HasRows}
 use Rattle.go_core.specs.SoundProgram.{DifferInRow}
+use Rattle.go_sound_parts.specs.Index.{IsRowAt, OwnRows, name_of}
 use Rattle.go_sound_parts.specs.Methods.{HasSpec}
-use Rattle.go_is_sound.specs.Rows.{IsOwnRow}
-use Rattle.go_is_sound.proofs.ListLemmas.{some_one, pairs_got}
+use Rattle.go_is_sound.specs.Rows.{AreDeclared, IsDeclared, IsDeclaredAt, LeadsTo, RowsDeclared}
+use Rattle.go_is_sound.proofs.ListLemmas.{some_one, got_mapped, got_set, pairs_got}
 
 module _ (p : Program) (t : TypeId) where
   abbrev pub RowOf : SpecTy → Type 0
@@ -39,22 +43,47 @@ module _ (p : Program) (t : TypeId) where
 two_firsts : (i j : ℕ) (o : Option ℕ) → o ≡ Some i → o ≡ Some j → i < j → ⊥
 two_firsts i j o h k l = let e : i ≡ j = some_one i j (sym h ∙ k) in omega (arith, e)
 
-abbrev method_name : Ty → List ℕ → List ℕ → MethodName
-method_name t name home = record { type_ = t; name = name; package_ = home }
+one_name : (a b : MethodRow) → a.type_ ≡ b.type_ → a.name ≡ b.name → a.package_ ≡ b.package_ → name_of a ≡ name_of b
+one_name a b h k l = cc
 
-one_name : (t u : Ty) (m n a b : List ℕ) → t ≡ u → m ≡ n → a ≡ b → method_name t m a ≡ method_name u n b
-one_name t u m n a b h k l = ap (λ (x : Ty). method_name x m a) h ∙ ap (λ (x : List ℕ). method_name u x a) k ∙ ap (λ (x : List ℕ). method_name u n x) l
-
-abbrev pub name_of : List Ty → declared.MethodRow → MethodName
-name_of ts r = method_name (tree_of ts r.ty) r.name r.package
-
-pub own_first : (p : Program) (i : ℕ) (r : declared.MethodRow) → IsOwnRow p i → slice_get p.methods.items.items i ≡ Some r → row_of (program_view p) (name_of (places p.types) r) ≡ Some i
-own_first p i r h e = subst (λ (x : declared.MethodRow). row_of (program_view p) (name_of (places p.types) x) ≡ Some i) (some_one h.row r (sym h.is_row ∙ e)) h.first
-
-pub rows_apart : (p : Program) → ((k : ℕ) (r : declared.MethodRow) → slice_get p.methods.items.items k ≡ Some r → IsOwnRow p k) → AllPairs DifferInRow (program_view p).methods
+pub rows_apart : (p : Program) → OwnRows (program_view p) → AllPairs DifferInRow (program_view p).methods
 rows_apart p own =
-    let ts = places p.types in
-    pairs_got DifferInRow (method_row_view ts) p.methods.items.items
+    let view = method_row_view (places p.types) in
+    let rows = p.methods.items.items in
+    pairs_got DifferInRow view rows
     (λ i j a b l e f. λ t n q.
-    two_firsts i j (row_of (program_view p) (name_of ts a)) (own_first p i a (own i a e) e)
-    (subst (λ (x : MethodName). row_of (program_view p) x ≡ Some j) (sym (one_name (tree_of ts a.ty) (tree_of ts b.ty) a.name b.name a.package b.package t n q)) (own_first p j b (own j b f) f)) l)
+    two_firsts i j (row_of (program_view p) (name_of (view a))) (own i (view a) (got_mapped view rows i a e))
+    (subst (λ (x : MethodName). row_of (program_view p) x ≡ Some j) (sym (one_name (view a) (view b) t n q)) (own j (view b) (got_mapped view rows j b f))) l)
+
+-- ---- rows that lead to methods of their types
+
+-- a row of a method, which leads to its signature
+pub declared_row : (p : Program) (t : TypeId) (m : MethodSpec) (at : ℕ) → IsMethodOf (program_view p).names (tree_of (places p.types) t) (spec_of (places p.types) m)
+    → IsRowAt (program_view p) (record { type_ = tree_of (places p.types) t; name = m.name; package_ = m.package }) at → LeadsTo p at m.sig → IsDeclaredAt (program_view p) at
+declared_row p t m at has h l = record {
+  row = h.row;
+  is_row = h.is_row;
+  is_declared = record {
+    function = l.function;
+    is_function = subst (λ (r : MethodRow). slice_get (program_view p).funcs r.func ≡ Some l.function) (some_one l.row h.row (sym l.is_row ∙ h.is_row)) l.is_function;
+    has_signature =
+        subst (λ (n : MethodName). HasMethod (program_view p).names n.type_ (sought n.name n.package_) l.function.params l.function.results l.function.variadic) (sym h.of_method)
+        (subst (λ (b : Bool). HasMethod (program_view p).names own (sought m.name m.package) l.function.params l.function.results b) (sym l.variadic_fits)
+        (subst (λ (us : Tys). HasMethod (program_view p).names own (sought m.name m.package) l.function.params us m.sig.variadic) (sym l.results_fit)
+        (subst (λ (us : Tys). HasMethod (program_view p).names own (sought m.name m.package) us (trees_of (places p.types) m.sig.results) m.sig.variadic) (sym l.params_fit) has.1)));
+  };
+}
+  where
+    own : Ty
+    own = tree_of (places p.types) t
+
+pub mark_more : (q : CoreProgram) (done : List Bool) (at : ℕ) → IsDeclaredAt q at → AreDeclared q done → AreDeclared q (set done at true)
+mark_more q done at h all i e = by_place (got_set done at i e)
+  where
+    by_place : (i ≡ at) ⊎ (slice_get done i ≡ Some true) → IsDeclaredAt q i
+    by_place (inl g) = subst (IsDeclaredAt q) (sym g) h
+    by_place (inr g) = all i g
+
+pub all_declared : (q : CoreProgram) (done : List Bool) → AreDeclared q done → ((k : ℕ) → k < length q.methods → slice_get done k ≡ Some true) → RowsDeclared q
+all_declared q done h d k row e =
+    let g = h k (d k (slice_get_within q.methods k row e)) in subst (IsDeclared q) (some_one g.row row (sym g.is_row ∙ e)) g.is_declared

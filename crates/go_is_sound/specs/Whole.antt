@@ -6,7 +6,7 @@ use Rattle.go_core.specs.declared.program.PackageVar as declared
 use Rattle.go_core.specs.declared.program.Program.{Program}
 use Rattle.go_core.specs.CoreTree.{CoreFunc, CoreProgram}
 use Rattle.go_core.specs.CoreView.{package_var_view, program_view}
-use Rattle.go_core.specs.SoundProgram.{AreSet, DifferInPackage, DifferInPath, DifferInRow, IsPlainFunc, SoundFunc, SoundHidden, SoundVariable}
+use Rattle.go_core.specs.SoundProgram.{AreSet, DifferInPackage, DifferInPath, IsPlainFunc, SoundFunc, SoundHidden, SoundVariable}
 use Rattle.go_is_sound.specs.Rows.{RowFits}
 
 pub record FuncsSound (q : CoreProgram) : Type 0 where
@@ -25,7 +25,6 @@ pub record AreDistinct (p : Program) : Type 0 where
   pub main_fits : IsPlainFunc (program_view p) (program_view p).main
   pub hidden : SoundHidden (program_view p)
   pub rows_fit : AllByRecursion (RowFits p) p.methods.items.items
-  pub rows_differ : AllPairs DifferInRow (program_view p).methods
   pub paths_differ : AllPairs DifferInPath (program_view p).packages
   pub numbers_differ : AllPairs DifferInPackage (program_view p).globals
   pub names_set : AreSet (program_view p)

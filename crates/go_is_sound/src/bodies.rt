@@ -76,6 +76,7 @@ fn judge_of<'a>(
     Judge {
         program,
         alloc,
+        rows: &facts.rows,
         is_method: facts.is_method.as_slice(),
         has_rows: facts.has_rows.as_slice(),
         measures: facts.measures.as_slice(),

@@ -4,17 +4,22 @@ ghost use Rattle.std.specs.Prelude.{◌≡◌, ◌<◌, ◌++◌, ℕ, IfOk, IfS
 ghost use Rattle.std.specs.List.{AllByRecursion};
 ghost use Rattle.go_type.specs.Table.{places, size};
 ghost use Rattle.go_core.specs.CoreView.{program_view, var_of};
-ghost use Rattle.go_core.specs.SoundNode.{IsRowOf};
+ghost use Rattle.go_core.specs.CoreTree.{CoreProgram};
+ghost use Rattle.go_type.specs.Levels.{tree_of};
+ghost use Rattle.go_core.specs.SoundNode.{HasRows, IsRowOf};
 ghost use Rattle.go_core.specs.SoundProgram.{all_vars, func_vars, initialiser_vars};
 ghost use Rattle.go_sound_parts.specs.Measures.{AreKnown};
-ghost use Rattle.go_is_sound.specs.Facts.{ArePlaced, Holds, IsMarked, RowsKnown, RowsKnownOf};
+ghost use Rattle.go_sound_parts.specs.Index.{OwnRows};
+ghost use Rattle.go_is_sound.specs.Facts.{ArePlaced, Holds, IsMarked, RowsFit, RowsKnown};
+ghost use Rattle.go_is_sound.specs.Rows.{AreDeclared};
 
-use crate::rows::{has_no_row, has_rows, rows_declared};
+use crate::rows::{all_done, has_rows, mark_declared};
 use crate::types::are_good;
 use gj_base::NoMemory;
 use go_core::node::{Var, VarId};
 use go_core::program::{MethodRow, Program};
 use go_core::tree::FuncId;
+use go_sound_parts::index::{KeyIndex, has_each_row, row_index};
 use go_sound_parts::levels::is_interface;
 use go_sound_parts::measures::Measure;
 use go_type::types::TypeId;
@@ -23,6 +28,10 @@ use std::alloc::Global;
 /// What is known of a program.
 #[derive(Drop)]
 pub struct Facts {
+    /// Where method rows stand.
+    pub rows: KeyIndex,
+    /// Of each function the place of a method row that leads to it.
+    pub leads: Vec<u64>,
     /// Of each function whether a method row leads to it.
     pub is_method: Vec<bool>,
     /// Of each type whether each method of its method set has its row.
@@ -37,12 +46,32 @@ pub struct Facts {
 
 // ---- functions that are methods
 
-fn falses(alloc: Global, count: usize) -> Result<Vec<bool>, NoMemory> {
+fn falses(alloc: Global, count: usize) -> Result<Vec<bool>, NoMemory>
+    ensures is { IfOk result (λ v. (q : CoreProgram) → AreDeclared q v.items) }
+{
     let mut list = Vec::new(alloc);
-    for _ in 0..count {
+    'marks: for _ in 0..count {
         list.push(false)?;
     }
     Ok(list)
+}
+
+fn lead(leads: &mut [u64], id: FuncId, i: usize) {
+    let at = id.0 as usize;
+    if at < leads.len() {
+        leads[at] = i as u64;
+    }
+}
+
+fn leads_of(alloc: Global, p: &Program) -> Result<Vec<u64>, NoMemory> {
+    let mut leads = Vec::new(alloc);
+    for _ in 0..p.funcs.items.len() {
+        leads.push(0)?;
+    }
+    for i in 0..p.methods.items.len() {
+        lead(leads.as_mut_slice(), p.methods.items[i].func, i);
+    }
+    Ok(leads)
 }
 
 fn mark(is_method: &mut [bool], id: FuncId) {
@@ -89,34 +118,88 @@ fn are_marked(p: &Program, is_method: &[bool]) -> bool
 
 // ---- types whose methods have rows
 
-// Whether the methods of a type have rows; nothing where a row is no method of it. Nothing wraps a value
-// of an interface type, so it isn't asked for methods where it has no row.
-fn rows_at(alloc: Global, p: &Program, t: TypeId) -> Result<Option<bool>, NoMemory>
-    requires t { t.0 < size p.now.types }
-    ensures is { IfOk result (λ o. IfSome o (λ b. RowsKnownOf p.now t b)) }
-{
-    if is_interface(&p.types, t) && has_no_row(p, t) {
-        return Ok(Some(false));
+fn ask(asked: &mut [bool], t: TypeId) {
+    if t.0 < asked.len() as u64 {
+        asked[t.0 as usize] = true;
     }
-    let set = p.types.method_set(alloc, t)?;
-    if !rows_declared(p, t, set.as_slice()) {
-        return Ok(None);
-    }
-    Ok(Some(has_rows(p, t, set.as_slice())))
 }
 
-// Of each type whether its methods have rows; nothing where a row is no method of its type.
-fn rows_of(alloc: Global, p: &Program) -> Result<Option<Vec<bool>>, NoMemory>
-    ensures is { IfOk result (λ o. IfSome o (λ v. RowsKnown p.now v.items (size p.now.types))) }
+// Of each type whether it has a row.
+fn asked_of(alloc: Global, p: &Program) -> Result<Vec<bool>, NoMemory> {
+    let mut asked = Vec::new(alloc);
+    for _ in 0..p.types.len() {
+        asked.push(false)?;
+    }
+    for row in &p.methods.items {
+        ask(asked.as_mut_slice(), row.ty);
+    }
+    Ok(asked)
+}
+
+fn is_asked(asked: &[bool], t: TypeId) -> bool {
+    match asked.get(t.0 as usize) {
+        Some(found) => *found,
+        None => false,
+    }
+}
+
+// Whether the methods of a type have rows, which are marked. Nothing wraps a value of an interface
+// type, so it isn't asked for methods where it has no row.
+fn rows_at(
+    alloc: Global,
+    p: &Program,
+    index: &KeyIndex,
+    t: TypeId,
+    asked: bool,
+    done: &mut Vec<bool>,
+) -> Result<bool, NoMemory>
+    requires t { t.0 < size p.now.types }
+    ensures known { let q = program_view p.now in OwnRows q → IfOk result (λ b. b ≡ true → HasRows q (tree_of (places p.now.types) t)) }
+    ensures declared { let q = program_view p.now in AreDeclared q done.old.items → AreDeclared q done.new.items }
+{
+    if is_interface(&p.types, t) && !asked {
+        return Ok(false);
+    }
+    let set = p.types.method_set(alloc, t)?;
+    mark_declared(p, index, t, set.as_slice(), done);
+    Ok(has_rows(p, index, t, set.as_slice()))
+}
+
+// Of each type whether its methods have rows; these rows are marked.
+fn rows_of(
+    alloc: Global,
+    p: &Program,
+    index: &KeyIndex,
+    asked: &[bool],
+    done: &mut Vec<bool>,
+) -> Result<Vec<bool>, NoMemory>
+    ensures known { OwnRows (program_view p.now) → IfOk result (λ v. RowsKnown p.now v.items (size p.now.types)) }
+    ensures declared { let q = program_view p.now in AreDeclared q done.old.items → AreDeclared q done.new.items }
 {
     let mut found = Vec::new(alloc);
     'types: for i in 0..p.types.len() {
-        match rows_at(alloc, p, TypeId(i))? {
-            Some(has_rows) => found.push(has_rows)?,
-            None => return Ok(None),
-        }
+        let has_rows = rows_at(alloc, p, index, TypeId(i), is_asked(asked, TypeId(i)), done)?;
+        found.push(has_rows)?;
     }
-    Ok(Some(found))
+    Ok(found)
+}
+
+// Of each type whether its methods have rows; nothing where two rows are those of one method, or a row
+// is no method of its type.
+fn known_rows(alloc: Global, p: &Program, index: &KeyIndex) -> Result<Option<Vec<bool>>, NoMemory>
+    ensures is { IfOk result (λ o. IfSome o (λ v. RowsFit p.now v.items)) }
+{
+    if !has_each_row(p, index) {
+        return Ok(None);
+    }
+    let asked = asked_of(alloc, p)?;
+    let mut done = falses(alloc, p.methods.items.len())?;
+    let has_rows = rows_of(alloc, p, index, asked.as_slice(), &mut done)?;
+    if all_done(p, done.as_slice()) {
+        Ok(Some(has_rows))
+    } else {
+        Ok(None)
+    }
 }
 
 // ---- variables
@@ -218,7 +301,7 @@ fn are_placed(vars: &[Var], places: &[usize]) -> bool
 
 // What holds of these facts.
 fn are_facts(p: &Program, facts: &Facts) -> bool
-    ensures is { AreKnown (program_view p.now).names (places p.now.types) facts.now.measures.items → RowsKnown p.now facts.now.has_rows.items (size p.now.types) → map (var_of (places p.now.types)) facts.now.vars.items ≡ all_vars (program_view p.now) → result ≡ true → Holds p.now facts.now }
+    ensures is { AreKnown (program_view p.now).names (places p.now.types) facts.now.measures.items → RowsFit p.now facts.now.has_rows.items → map (var_of (places p.now.types)) facts.now.vars.items ≡ all_vars (program_view p.now) → result ≡ true → Holds p.now facts.now }
 {
     if !are_good(p, facts.measures.as_slice()) || !are_marked(p, facts.is_method.as_slice()) {
         return false;
@@ -226,9 +309,9 @@ fn are_facts(p: &Program, facts: &Facts) -> bool
     are_placed(facts.vars.as_slice(), facts.places.as_slice())
 }
 
-/// What is known of a program; nothing where a type isn't good, a row is no method of its type, two
-/// variables have one number, or the numbers are further apart than ones that are given one after
-/// another.
+/// What is known of a program; nothing where a type isn't good, a row is no method of its type, two rows
+/// are those of one method, two variables have one number, or the numbers are further apart than ones
+/// that are given one after another.
 pub fn facts_of(
     alloc: Global,
     p: &Program,
@@ -243,10 +326,14 @@ pub fn facts_of(
     }
     let places = places_of(alloc, vars.as_slice(), count)?;
     let is_method = methods_of(alloc, p)?;
-    let Some(has_rows) = rows_of(alloc, p)? else {
+    let leads = leads_of(alloc, p)?;
+    let rows = row_index(alloc, p)?;
+    let Some(has_rows) = known_rows(alloc, p, &rows)? else {
         return Ok(None);
     };
     let facts = Facts {
+        rows,
+        leads,
         is_method,
         has_rows,
         measures,

@@ -2,14 +2,13 @@
 //!
 //! Go, "Function declarations", "Method declarations", "Terminating statements".
 
-ghost use Rattle.std.specs.Prelude.{◌≡◌, ◌++◌, ◌-◌, ℕ, List, [], IfOk, IfSome, Some, true, false, map, length, take, All, Contains};
+ghost use Rattle.std.specs.Prelude.{◌≡◌, ◌++◌, ◌-◌, ℕ, List, [], IfOk, IfSome, Some, true, false, map, length, take, All};
 ghost use Rattle.std.specs.List.{AllByRecursion};
 ghost use Rattle.go_type.specs.Tree.{Ty};
 ghost use Rattle.go_type.specs.Levels.{trees_of};
 ghost use Rattle.go_type.specs.Table.{places};
-ghost use Rattle.go_core.specs.CoreTree as core;
 ghost use Rattle.go_core.specs.declared.program.Program.{Program};
-ghost use Rattle.go_core.specs.CoreView.{func_view, method_row_view, program_view, var_of};
+ghost use Rattle.go_core.specs.CoreView.{func_view, program_view, var_of};
 ghost use Rattle.go_core.specs.TypeOf.{listed_types};
 ghost use Rattle.go_core.specs.SoundNode.{IsGoodType, IsRowOf};
 ghost use Rattle.go_core.specs.SoundProgram.{IsPlainFunc, SoundFunc, Terminates};
@@ -21,9 +20,9 @@ use crate::ends::ends_terminating;
 use crate::facts::Facts;
 use gj_base::NoMemory;
 use go_core::node::Var;
-use go_core::program::{Func, MethodRow, Program};
+use go_core::program::{Func, Program};
 use go_core::tree::FuncId;
-use go_sound_parts::methods::func_at;
+use go_sound_parts::methods::{func_at, row_at};
 use go_type::types::TypeId;
 use std::alloc::Global;
 
@@ -77,24 +76,23 @@ fn own_vars<'a>(f: &'a Func, is_method: bool) -> Option<&'a [Var]>
 
 // ---- whether it is a method
 
-fn one_leads(rows: &[MethodRow], id: FuncId) -> bool
-    ensures is { result ≡ true → (ts : List Ty) → (row : core.MethodRow) × Contains (map (method_row_view ts) rows.now) row × (row.func ≡ id.0) }
+// Whether the row at a place leads to a function.
+fn leads_at(p: &Program, at: u64, id: FuncId) -> bool
+    ensures is { result ≡ true → IsRowOf (program_view p.now) id.0 }
 {
-    match rows.split_first() {
-        Some((row, others)) => {
-            if row.func.0 == id.0 {
-                return true;
-            }
-            one_leads(others, id)
-        }
+    match row_at(p, at) {
+        Some(row) => row.func.0 == id.0,
         None => false,
     }
 }
 
-fn has_row(p: &Program, id: FuncId) -> bool
+fn has_row(facts: &Facts, p: &Program, id: FuncId) -> bool
     ensures is { result ≡ true → IsRowOf (program_view p.now) id.0 }
 {
-    one_leads(p.methods.items.as_slice(), id)
+    match facts.leads.as_slice().get(id.0 as usize) {
+        Some(at) => leads_at(p, *at, id),
+        None => false,
+    }
 }
 
 /// Whether no row leads to a function.
@@ -114,7 +112,7 @@ fn kind_of(facts: &Facts, p: &Program, id: FuncId) -> Option<bool>
     if is_plain(facts, id) {
         return Some(false);
     }
-    if has_row(p, id) {
+    if has_row(facts, p, id) {
         return Some(true);
     }
     None

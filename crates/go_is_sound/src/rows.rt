@@ -2,100 +2,116 @@
 //!
 //! Go, "Method sets", "Method declarations".
 
-ghost use Rattle.std.specs.Prelude.{◌≡◌, ◌⊎◌, ◌<◌, ℕ, List, [], true, false, Some, map, AllPairs, codes};
+ghost use Rattle.std.specs.Prelude.{◌≡◌, ◌⊎◌, ◌<◌, ℕ, List, [], true, false, IfSome, Some, map, slice_get, codes};
 ghost use Rattle.std.specs.List.{AllByRecursion};
 ghost use Rattle.go_type.specs.Tree as tree;
 ghost use Rattle.go_type.specs.Tree.{Ty, no_tys, more_tys};
-ghost use Rattle.go_type.specs.Named.{NamedTy};
 ghost use Rattle.go_type.specs.Levels.{tree_of, trees_of};
 ghost use Rattle.go_type.specs.Table.{places, names};
 ghost use Rattle.go_type.specs.Underlying.{underlying};
 ghost use Rattle.go_type.specs.Members.{sought};
-ghost use Rattle.go_type.specs.MethodSet.{HasMethod};
 ghost use Rattle.go_type.specs.MethodList.{IsMethodOf, IsMethodSet, spec_of};
 ghost use Rattle.go_core.specs.CoreView.{func_view, program_view};
 ghost use Rattle.go_core.specs.SoundNode.{HasRow, HasRows};
-ghost use Rattle.go_core.specs.SoundProgram.{DifferInRow, SoundHidden};
-ghost use Rattle.go_is_sound.specs.Rows.{Declares, DeclaresAll, HasReceiver, RowFits, Fits, IsOwnRow};
+ghost use Rattle.go_core.specs.CoreTree.{CoreProgram};
+ghost use Rattle.go_core.specs.SoundProgram.{SoundHidden};
+ghost use Rattle.go_sound_parts.specs.Index.{OwnRows};
+ghost use Rattle.go_is_sound.specs.Rows.{AreDeclared, HasReceiver, IsDeclaredAt, LeadsTo, RowFits, RowsDeclared};
 
 use go_core::program::{Func, MethodRow, Program};
+use go_sound_parts::index::KeyIndex;
 use go_sound_parts::levels::{level_at, points_to, under};
-use go_sound_parts::methods::{func_at, have_rows, method, row_of, same_signature};
+use go_sound_parts::methods::{func_at, have_rows, method, row_at, row_of, same_signature};
 use go_type::types::{GoType, MethodSpec, Sig, TypeId};
 
 // ---- a type's methods have rows
 
 /// Whether each method of a type's method set has its row.
-pub fn has_rows(p: &Program, t: TypeId, set: &[MethodSpec]) -> bool
-    ensures is { let q = program_view p.now in let ts = places p.now.types in IsMethodSet q.names (tree_of ts t) (map (spec_of ts) set.now) → result ≡ true → HasRows q (tree_of ts t) }
+pub fn has_rows(p: &Program, index: &KeyIndex, t: TypeId, set: &[MethodSpec]) -> bool
+    ensures is { let q = program_view p.now in let ts = places p.now.types in OwnRows q → IsMethodSet q.names (tree_of ts t) (map (spec_of ts) set.now) → result ≡ true → HasRows q (tree_of ts t) }
 {
-    have_rows(p, t, set)
+    have_rows(p, index, t, set)
 }
 
 // ---- a row's function is a method of the type
 
-fn has_name(spec: &MethodSpec, row: &MethodRow) -> bool
-    ensures is { result ≡ true → (spec.now.name ≡ row.now.name) × (spec.now.package ≡ row.now.package) }
+fn leads_to(p: &Program, at: u64, sig: &Sig) -> bool
+    ensures is { result ≡ true → LeadsTo p.now at sig.now }
 {
-    spec.name == row.name && spec.package == row.package
-}
-
-fn is_spec_of(spec: &MethodSpec, row: &MethodRow, sig: &Sig) -> bool
-    ensures is { result ≡ true → (ts : List Ty) → Fits ts spec.now row.now sig.now }
-{
-    has_name(spec, row) && same_signature(&spec.sig, sig)
-}
-
-// Whether a method set has a row's method with this signature.
-fn set_has(set: &[MethodSpec], row: &MethodRow, sig: &Sig) -> bool
-    ensures is { result ≡ true → (ns : List NamedTy) (ts : List Ty) (t : Ty) → AllByRecursion (IsMethodOf ns t) (map (spec_of ts) set.now) → HasMethod ns t (sought row.now.name row.now.package) (trees_of ts sig.now.params) (trees_of ts sig.now.results) sig.now.variadic }
-{
-    match set.split_first() {
-        Some((spec, others)) => {
-            if is_spec_of(spec, row, sig) {
-                return true;
-            }
-            set_has(others, row, sig)
-        }
+    match row_at(p, at) {
+        Some(row) => match func_at(p, row.func) {
+            Some(f) => same_signature(&f.sig, sig),
+            None => false,
+        },
         None => false,
     }
 }
 
-fn is_declared(p: &Program, t: TypeId, set: &[MethodSpec], row: &MethodRow) -> bool
-    ensures is { let q = program_view p.now in let ts = places p.now.types in AllByRecursion (IsMethodOf q.names (tree_of ts t)) (map (spec_of ts) set.now) → result ≡ true → Declares p.now t row.now }
+// The place of the row of a type's method, where it leads to a function with the method's signature.
+fn declared_at(p: &Program, index: &KeyIndex, t: TypeId, spec: &MethodSpec) -> Option<u64>
+    ensures is { let q = program_view p.now in let ts = places p.now.types in IsMethodOf q.names (tree_of ts t) (spec_of ts spec.now) → IfSome result (IsDeclaredAt q) }
 {
-    if row.ty.0 != t.0 {
-        return true;
+    match row_of(p, index, t, spec.name.as_bytes(), spec.package.as_bytes()) {
+        Some(at) => if leads_to(p, at, &spec.sig) {
+            Some(at)
+        } else {
+            None
+        },
+        None => None,
     }
-    match func_at(p, row.func) {
-        Some(f) => set_has(set, row, &f.sig),
+}
+
+fn mark(done: &mut Vec<bool>, at: u64)
+    ensures is { (q : CoreProgram) → IsDeclaredAt q at → AreDeclared q done.old.items → AreDeclared q done.new.items }
+{
+    if at < done.len() as u64 {
+        done[at as usize] = true;
+    }
+}
+
+fn mark_method(p: &Program, index: &KeyIndex, t: TypeId, spec: &MethodSpec, done: &mut Vec<bool>)
+    ensures is { let q = program_view p.now in let ts = places p.now.types in IsMethodOf q.names (tree_of ts t) (spec_of ts spec.now) → AreDeclared q done.old.items → AreDeclared q done.new.items }
+{
+    match declared_at(p, index, t, spec) {
+        Some(at) => mark(done, at),
+        None => {}
+    }
+}
+
+/// Marks the rows of a type that lead to methods of its method set.
+pub fn mark_declared(
+    p: &Program,
+    index: &KeyIndex,
+    t: TypeId,
+    set: &[MethodSpec],
+    done: &mut Vec<bool>,
+)
+    ensures is { let q = program_view p.now in let ts = places p.now.types in AllByRecursion (IsMethodOf q.names (tree_of ts t)) (map (spec_of ts) set.now) → AreDeclared q done.old.items → AreDeclared q done.new.items }
+{
+    for spec in set {
+        mark_method(p, index, t, spec, done);
+    }
+}
+
+fn is_done(done: &[bool], i: usize) -> bool
+    ensures is { result ≡ true → slice_get done.now i ≡ Some true }
+{
+    match done.get(i) {
+        Some(found) => *found,
         None => false,
     }
 }
 
-fn all_declared(p: &Program, t: TypeId, set: &[MethodSpec]) -> bool
-    ensures is { let q = program_view p.now in let ts = places p.now.types in AllByRecursion (IsMethodOf q.names (tree_of ts t)) (map (spec_of ts) set.now) → result ≡ true → DeclaresAll p.now t }
+/// Whether each row is marked.
+pub fn all_done(p: &Program, done: &[bool]) -> bool
+    ensures is { let q = program_view p.now in AreDeclared q done.now → result ≡ true → RowsDeclared q }
 {
-    for row in &p.methods.items {
-        if !is_declared(p, t, set, row) {
+    'rows: for i in 0..p.methods.items.len() {
+        if !is_done(done, i) {
             return false;
         }
     }
     true
-}
-
-/// Whether each row of a type leads to a method of its method set.
-pub fn rows_declared(p: &Program, t: TypeId, set: &[MethodSpec]) -> bool
-    ensures is { let q = program_view p.now in let ts = places p.now.types in IsMethodSet q.names (tree_of ts t) (map (spec_of ts) set.now) → result ≡ true → DeclaresAll p.now t }
-{
-    all_declared(p, t, set)
-}
-
-/// Whether a type has no row.
-pub fn has_no_row(p: &Program, t: TypeId) -> bool
-    ensures is { result ≡ true → DeclaresAll p.now t }
-{
-    all_declared(p, t, &[])
 }
 
 // ---- receivers
@@ -146,32 +162,6 @@ pub fn rows_fit(p: &Program) -> bool
     true
 }
 
-// ---- no two rows of one method
-
-fn is_own_row(p: &Program, i: usize) -> bool
-    ensures is { result ≡ true → IsOwnRow p.now i }
-{
-    match p.methods.items.as_slice().get(i) {
-        Some(row) => match row_of(p, row.ty, row.name.as_bytes(), row.package.as_bytes()) {
-            Some(at) => at == i as u64,
-            None => false,
-        },
-        None => false,
-    }
-}
-
-/// Whether no two rows are those of one method.
-pub fn rows_differ(p: &Program) -> bool
-    ensures is { result ≡ true → AllPairs DifferInRow (program_view p.now).methods }
-{
-    'rows: for i in 0..p.methods.items.len() {
-        if !is_own_row(p, i) {
-            return false;
-        }
-    }
-    true
-}
-
 // ---- the hidden type of run-time panics
 
 fn gives_one_text(p: &Program, f: &Func) -> bool
@@ -198,19 +188,19 @@ fn has_no_results(f: &Func) -> bool
     f.sig.results.as_slice().is_empty()
 }
 
-fn has_error(p: &Program, t: TypeId) -> bool
-    ensures is { let ts = places p.now.types in result ≡ true → HasRow (program_view p.now) (tree_of ts t) (sought (codes "Error") []) no_tys (more_tys tree.str no_tys) false }
+fn has_error(p: &Program, index: &KeyIndex, t: TypeId) -> bool
+    ensures is { let ts = places p.now.types in OwnRows (program_view p.now) → result ≡ true → HasRow (program_view p.now) (tree_of ts t) (sought (codes "Error") []) no_tys (more_tys tree.str no_tys) false }
 {
-    match method(p, t, b"Error", b"") {
+    match method(p, index, t, b"Error", b"") {
         Some(f) => has_no_params(f) && gives_one_text(p, f),
         None => false,
     }
 }
 
-fn has_runtime_error(p: &Program, t: TypeId) -> bool
-    ensures is { let ts = places p.now.types in result ≡ true → HasRow (program_view p.now) (tree_of ts t) (sought (codes "RuntimeError") []) no_tys no_tys false }
+fn has_runtime_error(p: &Program, index: &KeyIndex, t: TypeId) -> bool
+    ensures is { let ts = places p.now.types in OwnRows (program_view p.now) → result ≡ true → HasRow (program_view p.now) (tree_of ts t) (sought (codes "RuntimeError") []) no_tys no_tys false }
 {
-    match method(p, t, b"RuntimeError", b"") {
+    match method(p, index, t, b"RuntimeError", b"") {
         Some(f) => has_no_params(f) && has_no_results(f),
         None => false,
     }
@@ -235,11 +225,11 @@ fn is_text_type(p: &Program, t: TypeId) -> bool
 }
 
 /// Whether the type of run-time panics is a named string type with the methods of an error.
-pub fn hidden_is_sound(p: &Program) -> bool
-    ensures is { result ≡ true → SoundHidden (program_view p.now) }
+pub fn hidden_is_sound(p: &Program, index: &KeyIndex) -> bool
+    ensures is { OwnRows (program_view p.now) → result ≡ true → SoundHidden (program_view p.now) }
 {
     is_named(p, p.hidden)
         && is_text_type(p, p.hidden)
-        && has_error(p, p.hidden)
-        && has_runtime_error(p, p.hidden)
+        && has_error(p, index, p.hidden)
+        && has_runtime_error(p, index, p.hidden)
 }

@@ -11,7 +11,7 @@ ghost use Rattle.go_is_sound.specs.Whole.{AreDistinct, BodiesSound, FuncsSound, 
 use crate::facts::{Facts, facts_of};
 use crate::functions::{func_is_sound, is_plain_func};
 use crate::packages::{all_paths_differ, packages_are_sound};
-use crate::rows::{hidden_is_sound, rows_differ, rows_fit};
+use crate::rows::{hidden_is_sound, rows_fit};
 use crate::types::are_set;
 use crate::variables::{numbers_differ, var_is_sound};
 use gj_base::NoMemory;
@@ -90,9 +90,8 @@ fn are_distinct(facts: &Facts, p: &Program) -> bool
     ensures is { Holds p.now facts.now → result ≡ true → AreDistinct p.now }
 {
     is_plain_func(facts, p, p.main)
-        && hidden_is_sound(p)
+        && hidden_is_sound(p, &facts.rows)
         && rows_fit(p)
-        && rows_differ(p)
         && all_paths_differ(p)
         && numbers_differ(p.globals.items.as_slice())
         && are_set(p, facts.measures.as_slice())

@@ -230,7 +230,7 @@ impl<'a> Judge<'a> {
             }
             CoreForm::Assert { ty, operand, .. } => {
                 self.expr(round, operand)
-                    && gives_asked(self.program, *ty, operand)
+                    && gives_asked(self.program, self.rows, *ty, operand)
                     && self.is_good(*ty)
             }
             CoreForm::Basic { ty, operand } => {

@@ -18,6 +18,7 @@ use go_core::node::{CoreExpr, MethodName, Var, VarId};
 use go_core::program::{Func, Program};
 use go_core::tree::FuncId;
 use go_sound_parts::given::{Item, gives, single};
+use go_sound_parts::index::KeyIndex;
 use go_sound_parts::levels::{is_concrete, level_at};
 use go_sound_parts::measures::{Measure, is_comparable};
 use go_sound_parts::methods::{answers_to, func_at, interface_method, method, same_signature};
@@ -31,6 +32,8 @@ use std::alloc::Global;
 pub struct Judge<'a> {
     pub program: &'a Program,
     pub alloc: Global,
+    /// Where method rows stand.
+    pub rows: &'a KeyIndex,
     /// Of each function whether a method row leads to it.
     pub is_method: &'a [bool],
     /// Of each type whether each method of its method set has its row.
@@ -166,9 +169,15 @@ impl<'a> Judge<'a> {
 
     /// A method value.
     pub fn bind_fits(&self, t: TypeId, n: &MethodName) -> bool
-        ensures is { result ≡ true → HasMethodType (program_in self.now) (method_of (trees_in self.now) n.now) (tree_of (trees_in self.now) t) }
+        ensures is { Knows self.now → result ≡ true → HasMethodType (program_in self.now) (method_of (trees_in self.now) n.now) (tree_of (trees_in self.now) t) }
     {
-        match method(self.program, n.ty, n.name.as_bytes(), n.package.as_bytes()) {
+        match method(
+            self.program,
+            self.rows,
+            n.ty,
+            n.name.as_bytes(),
+            n.package.as_bytes(),
+        ) {
             Some(f) => self.is_func_type(t, &f.sig),
             None => false,
         }
@@ -209,7 +218,7 @@ impl<'a> Judge<'a> {
         ensures is { let q = program_in self.now in let ts = trees_in self.now in Knows self.now → result ≡ true → Gives q (expr_view ts e.now) (tree_of ts from) × AnswersTo q (tree_of ts from) (underlying q.names (tree_of ts t)) × (IsInterface (underlying q.names (tree_of ts from)) → ⊥) × HasRows q (tree_of ts from) }
     {
         gives(&self.program.types, e, from)
-            && answers_to(self.program, from, t)
+            && answers_to(self.program, self.rows, from, t)
             && is_concrete(&self.program.types, from)
             && self.has_rows(from)
     }

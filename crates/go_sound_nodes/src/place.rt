@@ -143,9 +143,15 @@ impl<'a> Judge<'a> {
 
     // A method by its row; the receiver comes first.
     fn called_method(&self, round: &Round<'_>, n: &MethodName) -> Option<Called<'a>>
-        ensures is { IfSome result (λ c. Calls (program_in self.now) (around self.now round.now).vars (core.method (method_of (trees_in self.now) n.now)) (wanted_of (trees_in self.now) c.wanted) (trees_of (trees_in self.now) c.results.now)) }
+        ensures is { Knows self.now → IfSome result (λ c. Calls (program_in self.now) (around self.now round.now).vars (core.method (method_of (trees_in self.now) n.now)) (wanted_of (trees_in self.now) c.wanted) (trees_of (trees_in self.now) c.results.now)) }
     {
-        match method(self.program, n.ty, n.name.as_bytes(), n.package.as_bytes()) {
+        match method(
+            self.program,
+            self.rows,
+            n.ty,
+            n.name.as_bytes(),
+            n.package.as_bytes(),
+        ) {
             Some(f) => Some(Called {
                 wanted: Wanted::After(n.ty, f.sig.params.as_slice()),
                 results: f.sig.results.as_slice(),

@@ -20,14 +20,14 @@ use Rattle.go_core.specs.SameType.{same_truth, same_type, same_types, same_field
 number_self : (n : ℕ) → (n == n) ≡ true
 number_self n = eq-eqb n n refl
 
-bytes_self : (x : List ℕ) → bytes_eq x x ≡ true
+pub bytes_self : (x : List ℕ) → bytes_eq x x ≡ true
 bytes_self x = grind (arith, bytes_eq-Decides x x)
 
 truth_self : (a : Bool) → same_truth a a ≡ true
 truth_self true = refl
 truth_self false = refl
 
-both_true : (a b : Bool) → a ≡ true → b ≡ true → (a && b) ≡ true
+pub both_true : (a b : Bool) → a ≡ true → b ≡ true → (a && b) ≡ true
 both_true true b h k = k
 both_true false b h k = cc
 

@@ -13,14 +13,14 @@ use Rattle.go_sound_parts.specs.Methods.{OwnsSpec}
 abbrev pub signature_of : List Ty → MethodSpec → Signature
 signature_of ts m = record { params = trees_of ts m.sig.params; results = trees_of ts m.sig.results; variadic = m.sig.variadic }
 
-some_one : {A : Type 0} (x y : A) → Some x ≡ Some y → x ≡ y
+pub some_one : {A : Type 0} (x y : A) → Some x ≡ Some y → x ≡ y
 some_one x y h = cc
 
 pub one_signature : (a b c d : Tys) (u v : Bool) → a ≡ b → c ≡ d → u ≡ v
     → (let s : Signature = record { params = a; results = c; variadic = u } in s) ≡ (let s : Signature = record { params = b; results = d; variadic = v } in s)
 one_signature a b c d u v e f g = cc
 
-both : (a b : Bool) → (a && b) ≡ true → (a ≡ true) × (b ≡ true)
+pub both : (a b : Bool) → (a && b) ≡ true → (a ≡ true) × (b ≡ true)
 both true b h = (refl, h)
 both false b h = absurd (cc)
 

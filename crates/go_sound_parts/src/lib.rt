@@ -8,6 +8,7 @@ pub mod alike;
 pub mod conversions;
 pub mod fields;
 pub mod given;
+pub mod index;
 pub mod levels;
 pub mod lists;
 pub mod measures;

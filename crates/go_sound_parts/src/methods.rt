@@ -6,17 +6,17 @@ ghost use Rattle.std.specs.Prelude.{◌≡◌, IfSome, Some, true, List, slice_g
 ghost use Rattle.go_type.specs.Tree as tree;
 ghost use Rattle.go_type.specs.Tree.{Ty};
 ghost use Rattle.go_type.specs.Levels.{tree_of, trees_of, specs_of};
-ghost use Rattle.go_type.specs.Table.{places, names, size};
+ghost use Rattle.go_type.specs.Table.{places, names};
 ghost use Rattle.go_type.specs.Underlying.{underlying};
 ghost use Rattle.go_core.specs.CoreTree.{MethodName};
 ghost use Rattle.go_core.specs.CoreView.{func_view, method_row_view, program_view};
-ghost use Rattle.go_core.specs.SameType.{same_type};
-ghost use Rattle.go_core.specs.StepInterfaces as defined;
 ghost use Rattle.go_core.specs.TypeOf.{Signature, method_in, spec_in};
 ghost use Rattle.go_core.specs.SoundNode.{Answers, AnswersTo};
+ghost use Rattle.go_sound_parts.specs.Index.{IsRowAt, OwnRows, name_of};
 ghost use Rattle.go_sound_parts.specs.Methods.{Finds, HasSpec};
 ghost use Rattle.std.specs.List.{AllByRecursion};
 
+use crate::index::{KeyIndex, place_of};
 use crate::levels::under;
 use crate::lists::same_types;
 use go_core::program::{Func, MethodRow, Program};
@@ -30,53 +30,47 @@ pub fn func_at(p: &Program, id: FuncId) -> Option<&Func>
     p.funcs.items.as_slice().get(id.0 as usize)
 }
 
-fn row_at(p: &Program, at: u64) -> Option<&MethodRow>
+/// A method row by its place.
+pub fn row_at(p: &Program, at: u64) -> Option<&MethodRow>
     ensures is { IfSome result (λ r. slice_get (program_view p.now).methods at ≡ Some (method_row_view (places p.now.types) r.now)) }
 {
     p.methods.items.as_slice().get(at as usize)
 }
 
-fn same_type(p: &Program, a: TypeId, b: TypeId) -> bool
-    requires a { a.0 < size p.now.types }
-    requires b { b.0 < size p.now.types }
-    ensures value { let ts = places p.now.types in result ≡ same_type (tree_of ts a) (tree_of ts b) }
+fn is_row(row: &MethodRow, t: TypeId, name: &[u8], package: &[u8]) -> bool
+    ensures is { result ≡ true → (ts : List Ty) → name_of (method_row_view ts row.now) ≡ record { type_ = tree_of ts t; name = name.now; package_ = «package».now } }
 {
-    p.types.identical(a, b)
-}
-
-// Whether a row is that of the method of a type with a name and a package.
-fn is_row(p: &Program, row: &MethodRow, t: TypeId, name: &[u8], package: &[u8]) -> bool
-    requires t { t.0 < size p.now.types }
-    requires row { row.now.ty.0 < size p.now.types }
-    ensures value { let ts = places p.now.types in result ≡ defined.is_row (record { type_ = tree_of ts t; name = name.now; package_ = «package».now }) (method_row_view ts row.now) }
-{
-    same_type(p, t, row.ty) && row.name.as_bytes() == name && row.package.as_bytes() == package
+    row.ty.0 == t.0 && row.name.as_bytes() == name && row.package.as_bytes() == package
 }
 
 /// The place of a method's row, by the type, the name and the package.
-pub fn row_of(p: &Program, t: TypeId, name: &[u8], package: &[u8]) -> Option<u64>
-    ensures is { let ts = places p.now.types in IfSome result (λ at. defined.row_of (program_view p.now) (record { type_ = tree_of ts t; name = name.now; package_ = «package».now }) ≡ Some at) }
+pub fn row_of(p: &Program, index: &KeyIndex, t: TypeId, name: &[u8], package: &[u8]) -> Option<u64>
+    ensures is { let ts = places p.now.types in IfSome result (λ at. IsRowAt (program_view p.now) (record { type_ = tree_of ts t; name = name.now; package_ = «package».now }) at) }
 {
-    let count = p.types.len();
-    if t.0 >= count {
-        return None;
+    match place_of(index, t.0, name, package) {
+        Some(at) => match row_at(p, at) {
+            Some(row) => if is_row(row, t, name, package) {
+                Some(at)
+            } else {
+                None
+            },
+            None => None,
+        },
+        None => None,
     }
-    'rows: for i in 0..p.methods.items.len() {
-        if p.methods.items[i].ty.0 >= count {
-            return None;
-        }
-        if is_row(p, &p.methods.items[i], t, name, package) {
-            return Some(i as u64);
-        }
-    }
-    None
 }
 
 /// The function of a type's method.
-pub fn method<'a>(p: &'a Program, t: TypeId, name: &[u8], package: &[u8]) -> Option<&'a Func>
-    ensures is { let ts = places p.now.types in IfSome result (λ f. Finds (program_view p.now) (record { type_ = tree_of ts t; name = name.now; package_ = «package».now }) (func_view ts f.now)) }
+pub fn method<'a>(
+    p: &'a Program,
+    index: &KeyIndex,
+    t: TypeId,
+    name: &[u8],
+    package: &[u8],
+) -> Option<&'a Func>
+    ensures is { let ts = places p.now.types in OwnRows (program_view p.now) → IfSome result (λ f. Finds (program_view p.now) (record { type_ = tree_of ts t; name = name.now; package_ = «package».now }) (func_view ts f.now)) }
 {
-    match row_of(p, t, name, package) {
+    match row_of(p, index, t, name, package) {
         Some(at) => match row_at(p, at) {
             Some(row) => match func_at(p, row.func) {
                 Some(f) => Some(f),
@@ -98,21 +92,21 @@ pub fn same_signature(a: &Sig, b: &Sig) -> bool
 }
 
 // Whether a method of a type has its row, whose function has its signature.
-fn has_row(p: &Program, t: TypeId, spec: &MethodSpec) -> bool
-    ensures is { result ≡ true → HasSpec p.now t spec.now }
+fn has_row(p: &Program, index: &KeyIndex, t: TypeId, spec: &MethodSpec) -> bool
+    ensures is { OwnRows (program_view p.now) → result ≡ true → HasSpec p.now t spec.now }
 {
-    match method(p, t, spec.name.as_bytes(), spec.package.as_bytes()) {
+    match method(p, index, t, spec.name.as_bytes(), spec.package.as_bytes()) {
         Some(func) => same_signature(&func.sig, &spec.sig),
         None => false,
     }
 }
 
 /// Whether each of these methods has its row.
-pub fn have_rows(p: &Program, t: TypeId, specs: &[MethodSpec]) -> bool
-    ensures is { result ≡ true → AllByRecursion (HasSpec p.now t) specs.now }
+pub fn have_rows(p: &Program, index: &KeyIndex, t: TypeId, specs: &[MethodSpec]) -> bool
+    ensures is { OwnRows (program_view p.now) → result ≡ true → AllByRecursion (HasSpec p.now t) specs.now }
 {
     for spec in specs {
-        if !has_row(p, t, spec) {
+        if !has_row(p, index, t, spec) {
             return false;
         }
     }
@@ -120,18 +114,18 @@ pub fn have_rows(p: &Program, t: TypeId, specs: &[MethodSpec]) -> bool
 }
 
 /// Whether each method of an interface type has its row for the type.
-pub fn answers(p: &Program, t: TypeId, specs: &[MethodSpec]) -> bool
-    ensures is { let ts = places p.now.types in result ≡ true → Answers (program_view p.now) (tree_of ts t) (specs_of ts specs.now) }
+pub fn answers(p: &Program, index: &KeyIndex, t: TypeId, specs: &[MethodSpec]) -> bool
+    ensures is { let ts = places p.now.types in OwnRows (program_view p.now) → result ≡ true → Answers (program_view p.now) (tree_of ts t) (specs_of ts specs.now) }
 {
-    have_rows(p, t, specs)
+    have_rows(p, index, t, specs)
 }
 
 /// Whether values of a type can be ones of an interface type: each of its methods has its row.
-pub fn answers_to(p: &Program, from: TypeId, to: TypeId) -> bool
-    ensures is { let q = program_view p.now in let ts = places p.now.types in result ≡ true → AnswersTo q (tree_of ts from) (underlying q.names (tree_of ts to)) }
+pub fn answers_to(p: &Program, index: &KeyIndex, from: TypeId, to: TypeId) -> bool
+    ensures is { let q = program_view p.now in let ts = places p.now.types in OwnRows q → result ≡ true → AnswersTo q (tree_of ts from) (underlying q.names (tree_of ts to)) }
 {
     match under(&p.types, to) {
-        Some(GoType::Interface(specs)) => answers(p, from, specs.as_slice()),
+        Some(GoType::Interface(specs)) => answers(p, index, from, specs.as_slice()),
         _ => false,
     }
 }

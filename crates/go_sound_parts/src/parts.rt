@@ -5,6 +5,7 @@
 ghost use Rattle.std.specs.Prelude.{◌≡◌, ◌⊎◌, true, IfSome, Some, ℕ, List};
 ghost use Rattle.go_type.specs.declared.types.IntName.TheVariants as integer;
 ghost use Rattle.go_sound_parts.specs.Given.{item_of};
+ghost use Rattle.go_sound_parts.specs.Index.{OwnRows};
 ghost use Rattle.go_type.specs.Tree as tree;
 ghost use Rattle.go_type.specs.Tree.{Ty};
 ghost use Rattle.go_type.specs.Levels.{tree_of, specs_of};
@@ -16,6 +17,7 @@ ghost use Rattle.go_core.specs.SoundNode.{IsInt, IsBool, IsText, IsInterface, Is
 ghost use Rattle.go_core.specs.Sound.{Gives, GivesSome, BinaryFits, IsZero, IsMapOf, HasKeyType, IsChannelOf};
 
 use crate::given::{Item, gives, single};
+use crate::index::KeyIndex;
 use crate::levels::{
     is_array, is_bool, is_channel, is_int, is_int_type, is_interface, is_text, slices, under,
 };
@@ -80,30 +82,30 @@ pub fn gives_interface(p: &Program, e: &CoreExpr) -> bool
 }
 
 // Whether the type is an interface type, or has these methods.
-fn has_or_asks(p: &Program, t: TypeId, specs: &[MethodSpec]) -> bool
-    ensures is { let q = program_view p.now in let ts = places p.now.types in result ≡ true → IsInterface (underlying q.names (tree_of ts t)) ⊎ Answers q (tree_of ts t) (specs_of ts specs.now) }
+fn has_or_asks(p: &Program, index: &KeyIndex, t: TypeId, specs: &[MethodSpec]) -> bool
+    ensures is { let q = program_view p.now in let ts = places p.now.types in OwnRows q → result ≡ true → IsInterface (underlying q.names (tree_of ts t)) ⊎ Answers q (tree_of ts t) (specs_of ts specs.now) }
 {
     if is_interface(&p.types, t) {
         return true;
     }
-    answers(p, t, specs)
+    answers(p, index, t, specs)
 }
 
-fn may_be(p: &Program, t: TypeId, from: TypeId) -> bool
-    ensures is { let q = program_view p.now in let ts = places p.now.types in result ≡ true → MayBe q (tree_of ts t) (underlying q.names (tree_of ts from)) }
+fn may_be(p: &Program, index: &KeyIndex, t: TypeId, from: TypeId) -> bool
+    ensures is { let q = program_view p.now in let ts = places p.now.types in OwnRows q → result ≡ true → MayBe q (tree_of ts t) (underlying q.names (tree_of ts from)) }
 {
     match under(&p.types, from) {
-        Some(GoType::Interface(specs)) => has_or_asks(p, t, specs.as_slice()),
+        Some(GoType::Interface(specs)) => has_or_asks(p, index, t, specs.as_slice()),
         _ => false,
     }
 }
 
 /// Whether it gives one interface value, which can be asked for the type.
-pub fn gives_asked(p: &Program, t: TypeId, e: &CoreExpr) -> bool
-    ensures is { let q = program_view p.now in let ts = places p.now.types in result ≡ true → GivesSome q (expr_view ts e.now) (MayBe q (tree_of ts t)) }
+pub fn gives_asked(p: &Program, index: &KeyIndex, t: TypeId, e: &CoreExpr) -> bool
+    ensures is { let q = program_view p.now in let ts = places p.now.types in OwnRows q → result ≡ true → GivesSome q (expr_view ts e.now) (MayBe q (tree_of ts t)) }
 {
     match single(&p.types, e) {
-        Some(Item::Of(from)) => may_be(p, t, from),
+        Some(Item::Of(from)) => may_be(p, index, t, from),
         _ => false,
     }
 }

@@ -13,8 +13,9 @@ pub returns-clause-knows : goal.returns-clause-knows
 returns-clause-knows c = λ h.
     let p = c.args.program.now in
     record {
+      own_rows = h.rows_fit.own_rows;
       types_fit = h.types_fit;
       measures_fit = subst (λ (ms : List (Option Measure)). AreKnown (names p.types) (places p.types) ms) (sym c.as_slice-3.ensures.value) h.measures_fit;
       is_method = subst (λ (bs : List Bool). (k : ℕ) → slice_get bs k ≡ Some false → IsRowOf (program_view p) k → ⊥) (sym c.as_slice.ensures.value) h.is_method;
-      has_rows = subst (λ (bs : List Bool). (t : TypeId) → slice_get bs t.0 ≡ Some true → HasRows (program_view p) (tree_of (places p.types) t)) (sym c.as_slice-2.ensures.value) h.rows_known.has_rows;
+      has_rows = subst (λ (bs : List Bool). (t : TypeId) → slice_get bs t.0 ≡ Some true → HasRows (program_view p) (tree_of (places p.types) t)) (sym c.as_slice-2.ensures.value) h.rows_fit.known.has_rows;
     }

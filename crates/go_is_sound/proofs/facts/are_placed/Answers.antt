@@ -2,7 +2,7 @@ use Rattle.std.proofs.Common.{rules, true, ◌≡◌, ℕ, arith}
 use Rattle.std.specs.Prelude.{Some, slice_get}
 use Rattle.std.proofs.lemmas.Option.{slice_get_within}
 use Rattle.go_core.specs.declared.node.Var.{Var}
-use Rattle.go_is_sound.proofs.ListLemmas.{up_to}
+use Rattle.go_sound_parts.proofs.RowLemmas.{up_to}
 use Rattle.go_is_sound.proofs.facts.are_placed.Goals as goal
 
 pub vars-preserved : goal.vars-preserved

@@ -6,7 +6,7 @@ use Rattle.go_type.specs.Table.{places}
 use Rattle.go_core.specs.CoreTree.{CoreFunc}
 use Rattle.go_core.specs.CoreView.{func_view, program_view}
 use Rattle.go_core.specs.SoundProgram.{SoundFunc}
-use Rattle.go_is_sound.proofs.ListLemmas.{up_to}
+use Rattle.go_sound_parts.proofs.RowLemmas.{up_to}
 use Rattle.go_is_sound.proofs.sound.funcs_are_sound.Goals as goal
 
 pub funcs-preserved : goal.funcs-preserved

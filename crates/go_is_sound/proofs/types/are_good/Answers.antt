@@ -3,7 +3,7 @@ use Rattle.go_type.specs.Levels.{tree_of}
 use Rattle.go_type.specs.Table.{places}
 use Rattle.go_core.specs.CoreView.{program_view}
 use Rattle.go_core.specs.SoundNode.{IsGoodType}
-use Rattle.go_is_sound.proofs.ListLemmas.{up_to}
+use Rattle.go_sound_parts.proofs.RowLemmas.{up_to}
 use Rattle.go_is_sound.proofs.TableLemmas.{all_trees}
 use Rattle.go_is_sound.proofs.types.are_good.Goals as goal
 

@@ -4,7 +4,7 @@ use Rattle.go_type.specs.Table.{names}
 use Rattle.go_core.specs.Layout.{holds_by_value}
 use Rattle.go_core.specs.SoundNode.{every}
 use Rattle.go_sound_parts.proofs.MeasureLemmas.{count_names}
-use Rattle.go_is_sound.proofs.ListLemmas.{up_to}
+use Rattle.go_sound_parts.proofs.RowLemmas.{up_to}
 use Rattle.go_is_sound.proofs.types.are_set.Goals as goal
 
 pub names-preserved : goal.names-preserved

@@ -9,9 +9,9 @@ use Rattle.go_sound_parts.proofs.methods.answers.Goals as goal
 
 pub returns : goal.returns
 returns c = record {
-  is = λ h.
+  is = λ own h.
       let p = c.args.p.now in
       let ts = places p.types in
       found_spec ts (λ (name package_ : List ℕ) (s : Signature). HasRow (program_view p) (tree_of ts c.args.t) (record { name = name; package_ = package_ }) s.params s.results s.variadic)
-      c.args.specs.now (c.have_rows.ensures.is h);
+      c.args.specs.now (c.have_rows.ensures.is own h);
 }
