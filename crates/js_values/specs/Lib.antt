@@ -1,5 +1,3 @@
-pub mod Exprs
-pub mod Kept
 pub mod Logic
 pub mod Numbers
 pub mod Steps
