@@ -10,7 +10,7 @@ use std::{fs, io, rt};
 /// More folders than a case has.
 const MOST_FOLDERS: u32 = 10000;
 
-/// The cases of the folder that the program runs in, in the order of their names.
+/// The cases of the folder that the program runs in.
 pub fn cases_here<R: rt::Files + AllocGlobal + Clone + Drop>(
     rt: &R,
     alloc: Global,
