@@ -1,0 +1,17 @@
+pub mod EntriesScalarLemmas
+pub mod CallLemmas
+pub mod ReceiverLemmas
+pub mod EntriesEnterLemmas
+pub mod FrameLemmas
+pub mod TextLemmas
+pub mod SignatureLemmas
+pub mod CallStepsEnterLemmas
+pub mod CallStepsStepLemmas
+pub mod IndexLemmas
+pub mod LocalStepsScalarLemmas
+pub mod LocalStepsStepLemmas
+pub mod FoundLemmas
+pub mod AssignLemmas
+pub mod AssignStepsCountLemmas
+pub mod PlaceLemmas
+pub mod DoingCountLemmas

@@ -1,0 +1,37 @@
+use Rattle.std.proofs.Common.{◌∙◌, ◌∷◌, sym, ap, arith, List}
+use Rattle.std.proofs.lemmas.Bool.{ltb-true, ltb-false}
+use Rattle.std.proofs.lemmas.List.{length-map}
+use Rattle.go_type.specs.Table.{places}
+use Rattle.go_core.specs.Calls.{resolved}
+use Rattle.go_core.specs.CoreView.{program_view}
+use Rattle.go_core.specs.Goroutine.{the_dynamic}
+use Rattle.go_values.specs.ValuesSeen.{scalar_of, value_of, values_of}
+use Rattle.go_values.specs.declared.values.scalar.Scalar.{Scalar}
+use Rattle.go_values.proofs.Only.{only}
+use Rattle.go_state.proofs.TodoLemmas.{if_ok}
+use Rattle.go_entries.proofs.CallLemmas.{no_dynamic}
+use Rattle.go_entries.proofs.entries.resolve.dynamic_first.Goals as goal
+use Rattle.go_entries.proofs.entries.resolve.dynamic_first.Goals.{in_default-via-then-first-lt1, in_default-via-else-first-lt1+else-first-lt2}
+
+pub returns-in-len1 : goal.returns-in-len1
+returns-in-len1 c =
+    let p = program_view c.args.p.now in
+    let ts = places c.args.p.now.types in
+    let e = only c.args.first.now c.x-item.result c.in-len1.len_at_least c.in-len1.len_below c.x-item.is in
+    record {
+      value = if_ok c.dynamic_in.result (λ r h at.
+          h at ∙ sym (ap (λ (xs : List Scalar). resolved p (the_dynamic c.args.name.now c.args.«package».now) at (value_of ts xs ∷ values_of ts c.args.vs.now)) e)) c.dynamic_in.ensures.value;
+    }
+
+pub returns-in_default : goal.returns-in_default
+returns-in_default c =
+    let p = program_view c.args.p.now in
+    let ts = places c.args.p.now.types in
+    record {
+      value = λ at.
+          no_dynamic p at (values_of ts c.args.vs.now) c.args.name.now c.args.«package».now (value_of ts c.args.first.now) (λ e.
+          elim c.in_default.branch [
+            | in_default-via-then-first-lt1 w ↦ omega (arith, ltb-true, ltb-false, e, length-map c.args.first.now (scalar_of ts))
+            | in_default-via-else-first-lt1+else-first-lt2 w ↦ omega (arith, ltb-true, ltb-false, e, length-map c.args.first.now (scalar_of ts))
+          ]);
+    }

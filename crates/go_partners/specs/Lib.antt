@@ -1,0 +1,10 @@
+pub mod Sought
+pub mod Moves
+pub mod Wakes
+pub mod Meets
+pub mod Talks
+pub mod Ways
+pub mod Chosen
+pub mod Wanted
+pub mod Gates
+pub mod Tells

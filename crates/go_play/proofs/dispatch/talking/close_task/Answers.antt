@@ -1,0 +1,17 @@
+use Rattle.go_type.specs.Table.{places}
+use Rattle.go_core.specs.CoreView.{program_view}
+use Rattle.go_core.specs.Goroutine as core
+use Rattle.go_core.specs.GoStep as steps
+use Rattle.go_state.specs.StateSeen.{move_of}
+use Rattle.go_state.proofs.TodoLemmas.{if_ok}
+use Rattle.go_play.proofs.PlaysLemmas.{plays_talked, same_below}
+use Rattle.go_play.proofs.dispatch.talking.close_task.Goals as goal
+
+pub returns : goal.returns
+returns c =
+    let q = program_view c.args.game.p.now in
+    let ts = places c.args.game.p.now.types in
+    let choices = c.args.game.choices.now in
+    let free = move_of c.args.game.free in
+    let g = c.args.g in
+    record { value = if_ok c.talk.result (λ b h. plays_talked q ts g c.close_step-came.result b c.args.frame c.close_step-came.new.f c.args.state.now c.close_step-came.new.state c.talk.new.state (λ x below t. steps.task_step q choices free g (core.close_channel) x below t) (c.close_step-came.ensures.value q ts free) (same_below ts c.args.state.now.goroutines.items c.close_step-came.new.state.goroutines.items g c.close_step-came.ensures.own) (h ts)) c.talk.ensures.value }

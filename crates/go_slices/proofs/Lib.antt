@@ -1,0 +1,15 @@
+pub mod SlicesFoundLemmas
+pub mod SlicesListLemmas
+pub mod SlicesScalarLemmas
+pub mod SlicedLemmas
+pub mod Steps
+pub mod MapsFoundLemmas
+pub mod MapsListLemmas
+pub mod MapLemmas
+pub mod PutLemmas
+pub mod LevelLemmas
+pub mod CompositesListLemmas
+pub mod MethodLemmas
+pub mod OperatorLemmas
+pub mod PartLemmas
+pub mod CompositesScalarLemmas

@@ -1,0 +1,13 @@
+use Rattle.std.proofs.Common.{◌≡◌, sym, subst, map, List}
+use Rattle.go_core.specs.StepMaps.{entries_at}
+use Rattle.go_values.specs.ValuesSeen.{value_of, entry_of, memory_of}
+use Rattle.go_values.specs.declared.values.scalar.Scalar.{Scalar}
+use Rattle.go_values.proofs.Only.{only}
+use Rattle.go_slices.proofs.maps.maps.entries_at.Goals as goal
+
+pub returns-in-len1 : goal.returns-in-len1
+returns-in-len1 c =
+    let e = only c.args.x.now c.x-item.result c.in-len1.len_at_least c.in-len1.len_below c.x-item.is in
+    record {
+      value = λ ts. subst (λ (xs : List Scalar). map (entry_of ts) c.entries_in.result.now ≡ entries_at (value_of ts xs) (memory_of ts c.args.m.now)) (sym e) (c.entries_in.ensures.value ts);
+    }

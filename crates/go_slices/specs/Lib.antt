@@ -1,0 +1,4 @@
+pub mod SlicesFound
+pub mod MapsFound
+pub mod Seen
+pub mod CompositesFound

@@ -1,0 +1,3 @@
+//! Steps on maps, in code.
+
+pub mod maps;

@@ -1,0 +1,17 @@
+pub mod Views
+pub mod ListsLemmas
+pub mod StackLemmas
+pub mod TodoLemmas
+pub mod PassedLemmas
+pub mod BranchLemmas
+pub mod MovedLemmas
+pub mod EntryLemmas
+pub mod ListLemmas
+pub mod ScalarLemmas
+pub mod Steps
+pub mod Lists
+pub mod BindLemmas
+pub mod ResultLemmas
+pub mod FrameLemmas
+pub mod GoesLemmas
+pub mod StartLemmas

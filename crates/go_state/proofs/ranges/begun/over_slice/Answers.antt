@@ -1,0 +1,13 @@
+use Rattle.std.proofs.Common.{sym, subst, List}
+use Rattle.go_type.specs.Tree.{slice}
+use Rattle.go_core.specs.Control.{cursor_of}
+use Rattle.go_values.specs.ValuesSeen.{value_of}
+use Rattle.go_values.specs.declared.values.scalar.Scalar.{Scalar}
+use Rattle.go_values.proofs.Only.{only}
+use Rattle.go_state.specs.RangesFound.{CursorFound}
+use Rattle.go_state.proofs.ranges.begun.over_slice.Goals as goal
+
+pub returns-in-len1 : goal.returns-in-len1
+returns-in-len1 c =
+    let e = only c.args.x.now c.x-item.result c.in-len1.len_at_least c.in-len1.len_below c.x-item.is in
+    record { value = λ ts p g t m. subst (λ (xs : List Scalar). CursorFound ts c.slice_at.result (cursor_of p g (slice t) (value_of ts xs) m)) (sym e) (c.slice_at.ensures.value ts p g t m) }

@@ -1,0 +1,14 @@
+pub mod Last
+pub mod TasksSeen
+pub mod Weight
+pub mod StateSeen
+pub mod Popped
+pub mod Passed
+pub mod StepsPast
+pub mod Moved
+pub mod Branch
+pub mod Measure
+pub mod RangesFound
+pub mod Bound
+pub mod FrameStepsFound
+pub mod Goes

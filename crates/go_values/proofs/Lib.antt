@@ -1,0 +1,14 @@
+pub mod ValuesLevelLemmas
+pub mod MemoryLemmas
+pub mod SameTypes
+pub mod TextLemmas
+pub mod CompareLemmas
+pub mod HoldsLemmas
+pub mod LayoutLemmas
+pub mod LayoutSteps
+pub mod LayoutsLevelLemmas
+pub mod OffsetLemmas
+pub mod Loops
+pub mod Only
+pub mod ScalarLemmas
+pub mod Steps

@@ -1,0 +1,15 @@
+use Rattle.std.proofs.Common.{◌≡◌, subst}
+use Rattle.go_type.specs.Tree.{Ty, int}
+use Rattle.go_type.specs.Levels.{tree_of}
+use Rattle.go_type.specs.Table.{places}
+use Rattle.go_core.specs.StepNumbers.{text_to_slice}
+use Rattle.go_values.specs.ValuesSeen.{value_of, memory_of}
+use Rattle.go_values.specs.OperatorsSeen.{Does}
+use Rattle.go_values.proofs.operators.convert.text_to_slice.Goals as goal
+
+pub returns-in-Some-Int : goal.returns-in-Some-Int
+returns-in-Some-Int c =
+    let ts = places c.args.c.now.table.now in
+    let s = memory_of ts c.args.m.now in
+    let e : int c.in-Some-Int.name ≡ tree_of ts c.args.t = rw c.in-Some-Int.field-0-is at c.in-Some-Int.ensures.tree in
+    record { value = subst (λ (u : Ty). Does ts s c.slice_of_text.result (text_to_slice u (value_of ts c.args.x.now) s)) e (c.slice_of_text.ensures.value ts c.in-Some-Int.name c.kind_of.ensures.value) }
