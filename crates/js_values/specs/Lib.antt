@@ -1,3 +1,5 @@
+pub mod Exprs
+pub mod Kept
 pub mod Logic
 pub mod Numbers
 pub mod Steps

@@ -1,6 +1,12 @@
 //! Expressions: the parts of each are evaluated from left to right, and its step joins their values. Go
 //! specification (as of Go 1.17), "Expressions", "Order of evaluation".
 
+ghost use Rattle.std.specs.Prelude.{◌≡◌, List, not};
+ghost use Rattle.go_type.specs.Tree.{Ty};
+ghost use Rattle.go_core.specs.CoreView.{expr_view};
+ghost use Rattle.js_values.specs.Steps.{RunsWhen};
+ghost use Rattle.js_values.specs.Exprs.{is_shift, known_count, ExprRuns};
+
 use crate::calls::{bind_dynamic, bind_method, call, callee_of, closure};
 use crate::channels::{gate_add, gate_make, make_chan, receive, recover};
 use crate::compare::{equal, less, not};
@@ -14,7 +20,7 @@ use crate::maps::{build_map, make_map, make_map_sized, map_get};
 use crate::numbers::{binary, constant_count, convert, count, size, unary};
 use crate::places::{
     Spot, address, deref_spot, elem_spot, field_spot, global_spot, local_spot, opened,
-    opened_elem_spot, read, slice_elem_spot,
+    opened_elem_spot, read, read_local, slice_elem_spot,
 };
 use crate::slices::{append, cap, copy_elems, len, make_slice, opened_len, opened_of, slice_of};
 use crate::stores::index_kind;
@@ -34,19 +40,20 @@ pub fn exprs<'p>(b: &mut Body<'p>, es: &'p Vec<CoreExpr>) {
 
 /// The values of an expression, from the depth of the stack on.
 #[cycle(expr)]
-pub fn expr<'p>(b: &mut Body<'p>, e: &'p CoreExpr) {
-    let from = b.depth();
+pub fn expr<'p>(b: &mut Body<'p>, e: &'p CoreExpr)
+    ensures { ExprRuns b.old b.new e.now }
+{
     match &*e.form {
         CoreForm::Const { ty, value } => constant(b, *ty, value),
         CoreForm::Zero { ty } => zero_value(b, *ty),
-        CoreForm::Read { ty, place } => {
-            let spot = placed(b, place);
-            read(b, from, spot, *ty);
-        }
-        CoreForm::Address { place, .. } => {
-            let spot = placed(b, place);
-            address(b, from, spot);
-        }
+        CoreForm::Read { ty, place } => match &*place.form {
+            PlaceForm::Local(v) => read_local(b, *v, *ty),
+            _ => {
+                let from = b.depth();
+                let spot = placed(b, place);
+                read(b, from, spot, *ty);
+            }
+        },
         CoreForm::Unary { op, ty, operand } => {
             expr(b, operand);
             unary(b, *op, *ty);
@@ -58,20 +65,17 @@ pub fn expr<'p>(b: &mut Body<'p>, e: &'p CoreExpr) {
             right,
         } => {
             expr(b, left);
-            let known = if is_shift(*op) {
-                constant_count(right)
-            } else {
-                None
-            };
-            match known {
-                Some(n) => b.push_number(n),
-                None => expr(b, right),
+            match known_count(*op, right) {
+                Some(n) => {
+                    b.push_number(n);
+                    binary(b, *op, *ty);
+                }
+                None => {
+                    expr(b, right);
+                    count_of(b, *op, right);
+                    binary(b, *op, *ty);
+                }
             }
-            if known.is_none() && is_shift(*op) {
-                let t = type_of(b.table(), right);
-                count(b, t);
-            }
-            binary(b, *op, *ty);
         }
         CoreForm::Concat { left, right, .. } => {
             expr(b, left);
@@ -119,6 +123,19 @@ pub fn expr<'p>(b: &mut Body<'p>, e: &'p CoreExpr) {
         CoreForm::Convert { from, ty, operand } => {
             expr(b, operand);
             convert(b, *from, *ty);
+        }
+        form => other(b, form),
+    }
+}
+
+// The values of an expression of any other form.
+#[cycle(expr)]
+fn other<'p>(b: &mut Body<'p>, form: &'p CoreForm) {
+    let from = b.depth();
+    match form {
+        CoreForm::Address { place, .. } => {
+            let spot = placed(b, place);
+            address(b, from, spot);
         }
         CoreForm::ByteAt { text, index } => {
             expr(b, text);
@@ -337,13 +354,37 @@ pub fn expr<'p>(b: &mut Body<'p>, e: &'p CoreExpr) {
             let_in(b, from, vars.items.as_slice());
             expr(b, body);
         }
+        _ => {}
     }
 }
 
-fn is_shift(op: Op) -> bool {
+fn is_shift(op: Op) -> bool
+    ensures { result ≡ is_shift op }
+{
     match op {
         Op::Shl | Op::Shr => true,
         _ => false,
+    }
+}
+
+// The count of a shift, where it is known.
+fn known_count(op: Op, e: &CoreExpr) -> Option<i64>
+    ensures { (ts : List Ty) → result ≡ known_count op (expr_view ts e.now) }
+{
+    if is_shift(op) {
+        constant_count(e)
+    } else {
+        None
+    }
+}
+
+// The last value, which this expression gave, as the count of a shift.
+fn count_of(b: &mut Body<'_>, op: Op, e: &CoreExpr)
+    ensures { RunsWhen b.old b.new (λ s. not (is_shift op)) (λ s. s) }
+{
+    if is_shift(op) {
+        let t = type_of(b.table(), e);
+        count(b, t);
     }
 }
 

@@ -4,11 +4,18 @@
 //! The operands of a place stay on the stack until it has been read or addressed: nothing that is evaluated
 //! later changes which place it is.
 
+ghost use Rattle.std.specs.Prelude.{◌≡◌, ◌||◌, not};
+ghost use Rattle.js_pool.specs.Stands.{Grows};
+ghost use Rattle.js_body.specs.State.{State, held_type, home_of};
+ghost use Rattle.js_body.specs.Tells.{Tells, Runs, Runs1};
+ghost use Rattle.js_values.specs.Steps.{is_scalar, RunsWhen};
+ghost use Rattle.js_values.specs.Exprs.{scalar_pushed, scalar_read};
+
 use gj_base::Kind;
 use go_core::node::{CoreExpr, CoreForm, PlaceForm, VarId};
 use go_type::types::TypeId;
 use js_body::slices::Parts;
-use js_body::{Body, Known, Operand};
+use js_body::{Body, Home, Known, Operand};
 use js_facts::held::{element, field_type, parts};
 use js_pool::ExprId;
 
@@ -167,6 +174,51 @@ pub fn read(b: &mut Body<'_>, from: usize, spot: Spot, t: TypeId) {
         }
     };
     b.push(e);
+}
+
+/// The value of a local variable of a type: a struct or an array is copied.
+pub fn read_local(b: &mut Body<'_>, v: VarId, t: TypeId)
+    ensures { RunsWhen b.old b.new (λ s. is_scalar (held_type t s)) (λ s. scalar_read (home_of v s) s) }
+{
+    let h = b.home(v);
+    if b.is_block(t) {
+        read_block(b, h, t);
+    } else {
+        read_scalar(b, h);
+    }
+}
+
+fn read_block(b: &mut Body<'_>, h: Home, t: TypeId)
+    ensures { Grows b.old.pool b.new.pool }
+{
+    let x = b.slot(h.slot);
+    let e = b.copied(x, t);
+    b.push(e);
+}
+
+fn read_scalar(b: &mut Body<'_>, h: Home)
+    ensures { Runs b.old b.new (scalar_read h) }
+{
+    let e = b.var(h);
+    push_scalar(b, h, e);
+}
+
+// One more value, which is what a variable holds.
+fn push_scalar(b: &mut Body<'_>, h: Home, e: ExprId)
+    ensures { Runs1 b.old b.new e (scalar_pushed h) }
+{
+    if is_set_later(b, h) {
+        b.push(e);
+    } else {
+        b.push_known(e, Known::Variable);
+    }
+}
+
+// Whether what a variable holds may change by more than a statement's assignments.
+fn is_set_later(b: &Body<'_>, h: Home) -> bool
+    ensures { (s : State) → Tells b.now s → result ≡ (h.boxed || not s.around.plain) }
+{
+    h.boxed || !b.plain
 }
 
 /// The pointer to a place whose operands begin here. A variable that is addressed is boxed.
