@@ -131,21 +131,21 @@ impl Checker {
         let Some(row) = self.wholes.get(number).copied() else {
             return Ok(());
         };
-        let is_sound = self.is_sound(row);
-        if let (Some((code, place)), true) = (row.fault, is_sound) {
+        let is_faultless = self.is_faultless(row);
+        if let (Some((code, place)), true) = (row.fault, is_faultless) {
             self.fault(code, place)?;
             if let Some(row) = self.wholes.as_mut_slice().get_mut(number) {
                 row.is_told = true;
             }
         }
-        if row.is_body && (!is_sound || row.fault.is_some()) {
+        if row.is_body && (!is_faultless || row.fault.is_some()) {
             self.spoil(row.func)?;
         }
         Ok(())
     }
 
     // Whether no part of a whole has a fault.
-    fn is_sound(&self, row: WholeRow) -> bool {
+    fn is_faultless(&self, row: WholeRow) -> bool {
         row.is_typed
             && !self.has_unused(row.start.objects, row.end.objects)
             && !self.has_unused_symbol(row.start.symbols, row.end.symbols)
