@@ -10,15 +10,15 @@ use go_check_operand::binary::binary;
 use go_check_operand::unary::unary;
 use go_check_primary::basic_literal::{int, rune, string};
 use go_check_primary::index_row::{assertion, index_row, receive, slice_row};
+use go_check_primary::interface_type::{interface_rows, interface_type};
 use go_check_primary::names::{member, name};
 use go_check_primary::selectors::{address_of, address_of_literal, indirection, selector};
+use go_check_primary::struct_type::{struct_rows, struct_type};
+use go_check_primary::type_row::{array_length, array_type, direction, map_type, wanted_type};
 use go_check_state::names::EMPTY;
 use go_check_state::node::{Node, Span};
 use go_check_state::state::{FuncRow, joined};
 use go_check_state::{Checker, FaultCode, Mode, Operand};
-use go_check_type::interface_type::{interface_rows, interface_type};
-use go_check_type::struct_type::{struct_rows, struct_type};
-use go_check_type::type_row::{array_length, array_type, direction, map_type, wanted_type};
 use go_syntax::tree::{Expr, ExprForm, Name, Prefix};
 use go_type::types::TypeId;
 

@@ -6,9 +6,9 @@
 use crate::expr::{Around, NOTHING, operand};
 use gj_base::{NoMemory, Place, Text};
 use go_check_operand::assignment::assignment;
+use go_check_primary::type_row::array_type;
 use go_check_state::node::{ConstId, Node};
 use go_check_state::{BLANK, Checker, FaultCode, NONE, Operand, Shape};
-use go_check_type::type_row::array_type;
 use go_const::Const;
 use go_syntax::tree::{Elem, Expr, ExprForm};
 use go_type::types::TypeId;

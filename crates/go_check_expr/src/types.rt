@@ -2,12 +2,12 @@
 
 use crate::expr::{Around, NOTHING, operand};
 use gj_base::NoMemory;
+use go_check_primary::interface_type::{InterfaceRows, add_interface, add_method};
+use go_check_primary::parameters::{bad_list, distinct, is_good_list, is_lone_name};
+pub use go_check_primary::parameters::{has_names, param_name};
+use go_check_primary::struct_type::{Embedded, StructRows, add_embedded, last_name, named_fields};
+use go_check_primary::type_row::wanted_type;
 use go_check_state::{Checker, NONE, NameId};
-use go_check_type::interface_type::{InterfaceRows, add_interface, add_method};
-use go_check_type::parameters::{bad_list, distinct, is_good_list, is_lone_name};
-pub use go_check_type::parameters::{has_names, param_name};
-use go_check_type::struct_type::{Embedded, StructRows, add_embedded, last_name, named_fields};
-use go_check_type::type_row::wanted_type;
 use go_syntax::tree::{Expr, Field, Member, Params, Results, Sig};
 use go_type::types::TypeId;
 

@@ -8,10 +8,10 @@ use crate::stmt::{NONE_OF_THEM, stmt_list};
 use crate::terminating::ends;
 use gj_base::{NoMemory, Place};
 use go_check_expr::types::{param_types, result_types};
+use go_check_primary::parameters::{has_names, param_name};
 use go_check_state::node::VarRef;
 use go_check_state::state::joined;
 use go_check_state::{Checker, EMPTY, Entity, FaultCode, FuncRow, NONE, NameId, Shape};
-use go_check_type::parameters::{has_names, param_name};
 use go_syntax::tree::{Block, Params, Results, Sig};
 use go_type::types::TypeId;
 
