@@ -2,10 +2,10 @@
 
 use crate::hidden::hidden;
 use crate::limits::{tell_made, tell_written};
+use crate::lower::whole::{Beside, MethodSpec, program};
+use crate::packages::stage::{FileRow, PackageRow, least};
 use crate::promoted::method_rows;
 use gj_base::{Fault, NoMemory, Refusal};
-use go_check_core::{Beside, MethodSpec, program};
-use go_check_package::{FileRow, PackageRow, least};
 use go_check_state::state::FaultRow;
 use go_check_state::{Checker, Entity, MAIN};
 use go_core::program::Program;
@@ -28,7 +28,7 @@ fn checked(c: &mut Checker, packages: &Packages) -> Result<Beside, Refusal> {
     gather(packages, &mut rows, &mut files)?;
     c.predeclare_all()?;
     let hidden = hidden(c)?;
-    let imports = go_check_package::check(c, rows.as_slice(), files.as_slice())?;
+    let imports = crate::packages::stage::check(c, rows.as_slice(), files.as_slice())?;
     tell_least(c, files.as_slice())?;
     Ok(Beside {
         methods: methods_of(c)?,

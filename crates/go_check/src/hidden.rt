@@ -1,8 +1,8 @@
 //! The type of run-time panics, a string with the methods `Error` and `RuntimeError` (own). Go,
 //! "Run-time panics".
 
+use crate::packages::methods::add_method;
 use gj_base::{NoMemory, Place};
-use go_check_package::add_method;
 use go_check_state::node::{Node, PlaceNode, Span, StmtId, StmtNode, VarRef};
 use go_check_state::{Checker, EMPTY, FuncRow, NO_OBJECT};
 use go_type::predeclared::STR;

@@ -7,7 +7,9 @@
 pub mod checking;
 pub mod hidden;
 pub mod limits;
+pub mod lower;
 pub mod members;
+pub mod packages;
 pub mod promoted;
 
 pub use checking::check;

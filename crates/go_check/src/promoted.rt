@@ -1,10 +1,10 @@
 //! Wrappers of promoted methods, and the rows of all methods. Go, "Struct types", "Method sets".
 
 use crate::hidden::NOWHERE;
+use crate::lower::whole::MethodSpec;
 use crate::members::{OwnMethods, members, own_methods};
 use gj_base::NoMemory;
-use go_check_call::calls::call;
-use go_check_core::MethodSpec;
+use go_check_expr::calls::call;
 use go_check_primary::selectors::selector;
 use go_check_state::node::{PlaceNode, Span, StmtId, VarRef};
 use go_check_state::state::MethodEntry;

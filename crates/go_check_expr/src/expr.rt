@@ -1,11 +1,11 @@
 //! Expressions of the syntax tree. Go, "Expressions".
 
+use crate::builtins::builtin;
+use crate::calls::call;
+use crate::conversion_row::conversion_call;
 use crate::literal::{begin, elided_type, end, literal};
 use crate::types::{DIRECT, fields, members, signature};
 use gj_base::{NoMemory, Op, Place};
-use go_check_call::builtins::builtin;
-use go_check_call::calls::call;
-use go_check_call::conversion_row::conversion_call;
 use go_check_operand::binary::binary;
 use go_check_operand::unary::unary;
 use go_check_primary::basic_literal::{int, rune, string};

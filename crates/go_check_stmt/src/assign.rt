@@ -6,7 +6,7 @@ use crate::sides::{
     Left, Sides, assigned, converted, exprs, miscounted, one_each, several, store_sides,
 };
 use gj_base::{NoMemory, Op, Place, Text};
-use go_check_call::calls::are_typed;
+use go_check_expr::calls::are_typed;
 use go_check_expr::expr::expr;
 use go_check_operand::assignment::{default_value, single_value};
 use go_check_operand::binary::binary;

@@ -5,7 +5,7 @@ use crate::frame::Frame;
 use crate::hold::{both, nothing};
 use crate::sides::{Sides, as_type, exprs, one_each, return_sides};
 use gj_base::{NoMemory, Place};
-use go_check_call::calls::are_typed;
+use go_check_expr::calls::are_typed;
 use go_check_expr::expr::expr;
 use go_check_operand::assignment::default_value;
 use go_check_state::node::{NodeId, StmtId, StmtNode};

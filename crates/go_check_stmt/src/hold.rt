@@ -1,7 +1,7 @@
 //! Core statements, and what is evaluated once and read later. Go, "Order of evaluation".
 
 use gj_base::{NoMemory, Place};
-use go_check_call::calls::Results;
+use go_check_expr::calls::Results;
 use go_check_state::node::{
     Node, NodeId, PlaceId, PlaceNode, Span, StmtId, StmtNode, Target, VarRef,
 };

@@ -5,7 +5,7 @@ use crate::constants::{constant_value, is_spec_typed};
 use crate::hold::{declare, nothing, sequence};
 use crate::sides::{Left, Sides, as_type, exprs, one_each, store_sides};
 use gj_base::NoMemory;
-use go_check_call::calls::are_typed;
+use go_check_expr::calls::are_typed;
 use go_check_expr::type_expr;
 use go_check_operand::assignment::default_value;
 use go_check_state::node::StmtId;

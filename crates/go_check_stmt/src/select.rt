@@ -5,7 +5,7 @@ use crate::hold::{both, nothing, store};
 use crate::labels::last_label;
 use crate::sides::{Left, assigned, exprs, miscounted, targets_of};
 use gj_base::{NoMemory, Place};
-use go_check_call::calls::are_typed;
+use go_check_expr::calls::are_typed;
 use go_check_expr::expr::expr;
 use go_check_operand::assignment::{assignment, single_value};
 use go_check_state::node::{Node, PlaceNode, StmtId, StmtNode, VarRef};

@@ -2,7 +2,7 @@
 
 use crate::hold::{declare_results, hold_target, nothing, sequence, store};
 use gj_base::{NoMemory, Place};
-use go_check_call::calls::{Results, are_typed, results_of};
+use go_check_expr::calls::{Results, are_typed, results_of};
 use go_check_expr::expr::expr;
 use go_check_operand::assignment::{assignment, default_value};
 use go_check_primary::index_row::with_ok;

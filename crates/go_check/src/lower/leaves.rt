@@ -1,6 +1,6 @@
 //! Expressions without parts, or with one.
 
-use crate::making::Making;
+use crate::lower::making::Making;
 use gj_base::NoMemory;
 use go_check_state::node::{ConstId, Node};
 use go_const::Const;

@@ -4,9 +4,9 @@
 //! back, and that one is tried first. A declaration that waits for itself is stuck; the faults of its last
 //! attempt stay.
 
-use crate::methods::method;
-use crate::several::several_values;
-use crate::unit::{Unit, UnitForm, UnitName, Units};
+use crate::packages::methods::method;
+use crate::packages::several::several_values;
+use crate::packages::unit::{Unit, UnitForm, UnitName, Units};
 use gj_base::NoMemory;
 use go_check_expr::expr::expr;
 use go_check_expr::{signature, type_expr};

@@ -1,6 +1,6 @@
 //! Declarations that need themselves.
 
-use crate::unit::Units;
+use crate::packages::unit::Units;
 use gj_base::NoMemory;
 use go_check_state::state::Colour;
 use go_check_state::{Checker, FaultCode};

@@ -1,6 +1,6 @@
 //! Statements from their parts.
 
-use crate::making::Making;
+use crate::lower::making::Making;
 use gj_base::NoMemory;
 use go_check_state::node::{Callee, Span, StmtId, StmtNode, Target as TargetNode, VarRef};
 use go_core::node::CoreExprs;

@@ -1,7 +1,7 @@
 //! Functions with their bodies.
 
-use crate::making::{Making, Task};
-use crate::numbers::{Counts, name};
+use crate::lower::making::{Making, Task};
+use crate::lower::numbers::{Counts, name};
 use gj_base::NoMemory;
 use go_check_state::FuncRow;
 use go_check_state::node::{NodeId, StmtId, VarRef};

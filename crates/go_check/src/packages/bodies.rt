@@ -1,7 +1,7 @@
 //! What is looked at once all declarations are typed: initialisers, bodies, embedded pointers.
 
-use crate::resolve::{enter, initialise};
-use crate::unit::{UnitForm, Units};
+use crate::packages::resolve::{enter, initialise};
+use crate::packages::unit::{UnitForm, Units};
 use gj_base::NoMemory;
 use go_check_state::{Checker, FaultCode, Shape};
 use go_check_stmt::literals::{Literals, in_expr};

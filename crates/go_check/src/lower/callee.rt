@@ -1,6 +1,6 @@
 //! Calls, and what is called.
 
-use crate::making::Making;
+use crate::lower::making::Making;
 use gj_base::NoMemory;
 use go_check_state::node::{Callee, Node, Span};
 use go_core::node::{Callee as CoreCallee, CoreExprs, CoreForm, MethodName};

@@ -1,6 +1,6 @@
 //! Expressions from their parts.
 
-use crate::making::Making;
+use crate::lower::making::Making;
 use gj_base::NoMemory;
 use go_check_state::node::{Node, NodeId, Span, VarRef};
 use go_core::node::{CoreElement, CoreElements, CoreExprs, CoreForm, CorePair, CorePairs, Vars};

@@ -1,12 +1,12 @@
 //! The types stage.
 
-use crate::bodies::{embedded_pointers, functions, initialisers};
-use crate::collect::collect;
-use crate::cycles::tell_cycles;
-use crate::imports::{ImportRow, import, tell_unused};
-use crate::order::{Imports, find_imports};
-use crate::resolve::{enter, resolve};
-use crate::unit::{UnitForm, Units};
+use crate::packages::bodies::{embedded_pointers, functions, initialisers};
+use crate::packages::collect::collect;
+use crate::packages::cycles::tell_cycles;
+use crate::packages::imports::{ImportRow, import, tell_unused};
+use crate::packages::order::{Imports, find_imports};
+use crate::packages::resolve::{enter, resolve};
+use crate::packages::unit::{UnitForm, Units};
 use gj_base::{NoMemory, Text};
 use go_check_state::state::{Colour, FaultRow};
 use go_check_state::{Checker, Entity};

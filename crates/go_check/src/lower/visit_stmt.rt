@@ -1,6 +1,6 @@
 //! The parts of a statement, which are looked at before it is made.
 
-use crate::making::{Making, Task};
+use crate::lower::making::{Making, Task};
 use gj_base::NoMemory;
 use go_check_state::node::{NodeId, Span, StmtId, StmtNode, Target};
 

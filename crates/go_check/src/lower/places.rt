@@ -1,6 +1,6 @@
 //! Places from their parts.
 
-use crate::making::Making;
+use crate::lower::making::Making;
 use gj_base::NoMemory;
 use go_check_state::node::{PlaceId, PlaceNode};
 use go_core::node::{GlobalId, PlaceForm, VarId};

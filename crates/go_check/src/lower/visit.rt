@@ -1,6 +1,6 @@
 //! The parts of an expression, which are looked at before it is made.
 
-use crate::making::{Making, Task};
+use crate::lower::making::{Making, Task};
 use gj_base::NoMemory;
 use go_check_state::node::{Callee, Node, NodeId, PlaceId, PlaceNode, Span};
 

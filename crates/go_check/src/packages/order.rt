@@ -1,7 +1,7 @@
 //! Which package imports which, and an order in which imported packages come first. Go, "Import
 //! declarations", "Package initialization".
 
-use crate::stage::{FileRow, PackageRow};
+use crate::packages::stage::{FileRow, PackageRow};
 use gj_base::NoMemory;
 use go_check_state::Checker;
 use std::collections::HashMap;

@@ -2,7 +2,6 @@
 //!
 //! Here alone trees are made: nodes go onto stacks of expressions, places and statements, and a node
 //! takes its parts from there. What is left to do stands on a stack too, so nothing here recurs.
-#![tactic(auto)]
 
 pub mod callee;
 pub mod exprs;
@@ -16,5 +15,3 @@ pub mod stmts;
 pub mod visit;
 pub mod visit_stmt;
 pub mod whole;
-
-pub use whole::{Beside, MethodSpec, program};

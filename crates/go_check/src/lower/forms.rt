@@ -1,6 +1,6 @@
 //! Expressions with two operands.
 
-use crate::making::Making;
+use crate::lower::making::Making;
 use gj_base::NoMemory;
 use go_check_state::node::Node;
 use go_core::node::CoreForm;

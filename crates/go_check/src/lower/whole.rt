@@ -1,7 +1,7 @@
 //! The whole program. Go, "Packages", "Program initialization and execution".
 
-use crate::making::Making;
-use crate::numbers::{Counts, numbers, ordered};
+use crate::lower::making::Making;
+use crate::lower::numbers::{Counts, numbers, ordered};
 use gj_base::{NoMemory, Text};
 use go_check_state::state::GlobalRow;
 use go_check_state::{Checker, INIT, NameId};

@@ -1,6 +1,6 @@
 //! The declarations of a file, each name in its package's scope. Go, "Declarations and scope".
 
-use crate::unit::{Unit, UnitForm, UnitName, Units};
+use crate::packages::unit::{Unit, UnitForm, UnitName, Units};
 use gj_base::{NoMemory, Place};
 use go_check_state::node::Span;
 use go_check_state::state::{Colour, FuncRow, GlobalRow};
